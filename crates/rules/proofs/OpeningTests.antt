@@ -1,0 +1,181 @@
+-- An opening finds a fault exactly when there is one. Assumes nothing.
+use mathlib.Core.Path.{_≡_, refl, sym, ap, ap₂, _∙_, subst}
+use mathlib.Core.Bool.{Bool, true, false, cond, _&&_, _||_}
+use mathlib.Core.List.{List, [], _∷_, _++_}
+use mathlib.Core.Logic.{_⊎_, inl, inr}
+use Prim.Native.Nat.{ℕ, zero, suc, _+_, _-_, _≤_, _<_}
+use native.Mathlib.Omega.{arith}
+use lib.IntN.{ℤ, natAbs}
+use lib.Dec.{leb, eqb}
+use lib.ListN.{length}
+use Rattle.std.specs.Options.{isSome}
+use Rattle.std.specs.declared.option.Option.{Option}
+use Rattle.std.specs.declared.option.Option.the-variants.{Some, None}
+use Rattle.std.specs.shelf.Lists.{All}
+use Rattle.std.proofs.shelf.Tests.{and-parts, and-from, or-cases, or-left, or-right, leb-true, le-leb, eqb-true, eq-eqb, cases-lt, cases-eq, ne-eqb, cond-true, cond-false}
+use Rattle.rules.specs.declared.kinds.Kind.{Kind}
+use Rattle.rules.specs.declared.kinds.Kind.the-variants.{GreatestAtMost, SumAtLeast, SumAtMost}
+use Rattle.rules.specs.declared.refusals.Fault.{Fault}
+use Rattle.rules.specs.declared.refusals.Refusal.the-variants.{AmountBeyond, CountOutside, CountsDiffer, LimitBeyond, OrderNotOnce, UnknownKind}
+use Rattle.rules.specs.declared.sheets.Sheet.{Sheet}
+use Rattle.rules.specs.Bounds.{greatest-amount, greatest-limit}
+use Rattle.rules.specs.Joinings.{kind-number, kind-numbered}
+use Rattle.rules.specs.Catalogues.{Meaning}
+use Rattle.rules.specs.Sheets.{Any, kind-of, last-row, limit-of, order-of}
+use Rattle.rules.specs.Refusals.{fault, fault-at}
+use Rattle.rules.specs.Openings.{Faultless, amount-tests, contains, contains-all, each-to, first-fault, limit-test, opening, row-tests, test, tests}
+use Rattle.rules.specs.Theorems.{Opening-law}
+use Rattle.rules.proofs.Bools.{clash}
+
+-- a test finds nothing
+abbrev Passed : Option Fault → Type 0
+Passed o = o ≡ None
+
+some-none : {A : Type 0} {x : A} → Some x ≡ None → ⊥
+some-none {A} {x} e = let z : _≡_ {A = ℕ} 0 1 = cc in omega (arith, z)
+
+all-passed : (ts : List (Option Fault)) → first-fault ts ≡ None → All Passed ts
+all-passed [] h = tt
+all-passed (Some f ∷ ts) h = absurd (some-none h)
+all-passed (None ∷ ts) h = (refl, all-passed ts h)
+
+none-first : (ts : List (Option Fault)) → All Passed ts → first-fault ts ≡ None
+none-first [] h = refl
+none-first (Some f ∷ ts) h = absurd (some-none (h .0))
+none-first (None ∷ ts) h = none-first ts (h .1)
+
+test-passed : (b : Bool) (f : Fault) → test b f ≡ None → b ≡ true
+test-passed true f e = refl
+test-passed false f e = absurd (some-none e)
+
+passed-test : (b : Bool) (f : Fault) → b ≡ true → Passed (test b f)
+passed-test b f e = cond-true b None (Some f) e
+
+module _ {A : Type 0} (P : A → Type 0) where
+  all-left : (xs ys : List A) → All P (xs ++ ys) → All P xs
+  all-left [] ys h = tt
+  all-left (x ∷ xs) ys h = (h .0, all-left xs ys (h .1))
+
+  all-right : (xs ys : List A) → All P (xs ++ ys) → All P ys
+  all-right [] ys h = h
+  all-right (x ∷ xs) ys h = all-right xs ys (h .1)
+
+  all-both : (xs ys : List A) → All P xs → All P ys → All P (xs ++ ys)
+  all-both [] ys h k = k
+  all-both (x ∷ xs) ys h k = (h .0, all-both xs ys (h .1) k)
+
+  each-at : (f : ℕ → List A) (k : ℕ) → All P (each-to f k) → (q : ℕ) → 1 ≤ q → q ≤ k → All P (f q)
+  each-at f zero h q a b = absurd (omega arith)
+  each-at f (suc k) h q a b =
+      elim (cases-lt k q) [
+        | inl l ↦ let e : suc k ≡ q = omega arith in subst (λ x. All P (f x)) e (all-right (each-to f k) (f (suc k)) h)
+        | inr l ↦ each-at f k (all-left (each-to f k) (f (suc k)) h) q a l
+      ]
+
+  each-all : (f : ℕ → List A) (k : ℕ) → ((q : ℕ) → 1 ≤ q → q ≤ k → All P (f q)) → All P (each-to f k)
+  each-all f zero h = tt
+  each-all f (suc k) h = all-both (each-to f k) (f (suc k)) (each-all f k (λ q a b. h q a (omega arith))) (h (suc k) (omega arith) (omega arith))
+
+contains-any : (q : ℕ) (xs : List ℕ) → contains q xs ≡ true → Any (λ x. x ≡ q) xs
+contains-any q [] h = let z : _≡_ {A = ℕ} 0 1 = cc in absurd (omega (arith, z))
+contains-any q (x ∷ xs) h = elim (or-cases (eqb x q) (contains q xs) h) [ inl e ↦ inl (eqb-true x q e) | inr e ↦ inr (contains-any q xs e) ]
+
+any-contains : (q : ℕ) (xs : List ℕ) → Any (λ x. x ≡ q) xs → contains q xs ≡ true
+any-contains q [] h = absurd h
+any-contains q (x ∷ xs) (inl e) = or-left (eqb x q) (contains q xs) (eq-eqb x q e)
+any-contains q (x ∷ xs) (inr h) = or-right (eqb x q) (contains q xs) (any-contains q xs h)
+
+all-contained : (n : ℕ) (xs : List ℕ) → contains-all n xs ≡ true → (q : ℕ) → 1 ≤ q → q ≤ n → Any (λ x. x ≡ q) xs
+all-contained zero xs h q a b = absurd (omega arith)
+all-contained (suc n) xs h q a b =
+    let p = and-parts (contains-all n xs) (contains (suc n) xs) h in
+    elim (cases-lt n q) [
+      | inl l ↦ let e : suc n ≡ q = omega arith in subst (λ y. Any (λ x. x ≡ y) xs) e (contains-any (suc n) xs (p .1))
+      | inr l ↦ all-contained n xs (p .0) q a l
+    ]
+
+contained-all : (n : ℕ) (xs : List ℕ) → ((q : ℕ) → 1 ≤ q → q ≤ n → Any (λ x. x ≡ q) xs) → contains-all n xs ≡ true
+contained-all zero xs h = refl
+contained-all (suc n) xs h =
+    and-from (contains-all n xs) (contains (suc n) xs) (contained-all n xs (λ q a b. h q a (omega arith))) (any-contains (suc n) xs (h (suc n) (omega arith) (omega arith)))
+
+-- a number for which a kind is found is the number of one, and the other way round
+kind-there : (n : ℕ) → isSome (kind-numbered n) ≡ true → (k : Kind) × (kind-number k ≡ n)
+kind-there n h =
+    elim (cases-eq n 1) [
+      | inl a ↦ (SumAtMost, sym a)
+      | inr a ↦ elim (cases-eq n 2) [
+        | inl b ↦ (SumAtLeast, sym b)
+        | inr b ↦ elim (cases-eq n 3) [
+          | inl c ↦ (GreatestAtMost, sym c)
+          | inr c ↦ clash h (ap isSome (cond-false (eqb n 1) _ _ (ne-eqb n 1 a) ∙ cond-false (eqb n 2) _ _ (ne-eqb n 2 b) ∙ cond-false (eqb n 3) _ _ (ne-eqb n 3 c)))
+        ]
+      ]
+    ]
+
+there-kind : (k : Kind) → isSome (kind-numbered (kind-number k)) ≡ true
+there-kind SumAtMost = refl
+there-kind SumAtLeast = refl
+there-kind GreatestAtMost = refl
+
+module _ (m : Meaning) (s : Sheet) where
+  abbrev amounts-tested : List (Option Fault)
+  amounts-tested = each-to (λ q. each-to (λ v. amount-tests m q v) (m .versions q)) (m .places)
+
+  limit-kept : (r : ℕ) → Passed (limit-test s r) → natAbs (limit-of s r) ≤ greatest-limit
+  limit-kept r h = leb-true _ _ (test-passed (leb (natAbs (limit-of s r)) greatest-limit) (fault LimitBeyond) h)
+
+  pub none-faultless : opening m s ≡ None → Faultless m s
+  unfolding opening
+  none-faultless h =
+      let all = all-passed (tests m s) h in
+      let counts = test-passed _ _ (all .0) in
+      let c = and-parts _ _ counts in
+      let d = and-parts _ _ (c .1) in
+      let rows : All Passed (each-to (row-tests s) (last-row s)) = all-left Passed (each-to (row-tests s) (last-row s)) _ (all .1 .1) in
+      let rest = all-right Passed (each-to (row-tests s) (last-row s)) _ (all .1 .1) in
+      let once = and-parts (eqb (length (order-of s)) (s .places)) (contains-all (s .places) (order-of s)) (test-passed _ _ (rest .0)) in
+      let same = and-parts _ _ (test-passed _ _ (rest .1 .0)) in
+      let same-places : m .places ≡ s .places = eqb-true _ _ (same .0) in
+      let same-rows : m .rows ≡ suc (last-row s) = eqb-true _ _ (same .1) in
+      let row = λ (r : ℕ) (a : 1 ≤ r) (b : r ≤ last-row s). each-at Passed (row-tests s) (last-row s) rows r a b in
+      record {
+        some-place = leb-true _ _ (c .0);
+        few-places = leb-true _ _ (d .0);
+        few-rows = leb-true _ _ (d .1);
+        kinds = λ r a b. kind-there (kind-of s r) (test-passed _ _ (row r a b .0));
+        limits = λ r b. elim (cases-lt 0 r) [
+          | inl l ↦ limit-kept r (row r l b .1 .0)
+          | inr l ↦ let e : 0 ≡ r = omega arith in subst (λ x. natAbs (limit-of s x) ≤ greatest-limit) e (limit-kept 0 (all .1 .0))
+        ];
+        order = (eqb-true _ _ (once .0), all-contained (s .places) (order-of s) (once .1));
+        same-places = same-places;
+        same-rows = same-rows;
+        amounts = λ r q v b qa qb va vb.
+            let at-place = each-at Passed (λ q. each-to (λ v. amount-tests m q v) (m .versions q)) (m .places) (rest .1 .1) q qa (omega (arith, same-places)) in
+            let at-version = each-at Passed (λ v. amount-tests m q v) (m .versions q) at-place v va vb in
+            let at-row = each-at Passed (λ k. test (leb (natAbs (m .amount (k - 1) q v)) greatest-amount) (fault-at AmountBeyond q v (k - 1)) ∷ []) (m .rows) at-version (suc r) (omega arith) (omega (arith, same-rows)) in
+            let e : suc r - 1 ≡ r = omega arith in
+            subst (λ x. natAbs (m .amount x q v) ≤ greatest-amount) e (leb-true _ _ (test-passed (leb (natAbs (m .amount (suc r - 1) q v)) greatest-amount) (fault-at AmountBeyond q v (suc r - 1)) (at-row .0)));
+      }
+
+  pub faultless-none : Faultless m s → opening m s ≡ None
+  unfolding opening
+  faultless-none f =
+      let limit : (r : ℕ) → r ≤ last-row s → Passed (limit-test s r) = λ r b. passed-test _ (fault LimitBeyond) (le-leb _ _ (f .limits r b)) in
+      let rows : All Passed (each-to (row-tests s) (last-row s)) =
+      each-all Passed (row-tests s) (last-row s) (λ r a b. let k = f .kinds r a b in (passed-test _ (fault UnknownKind) (subst (λ n. isSome (kind-numbered n) ≡ true) (k .1) (there-kind (k .0))), (limit r b, tt))) in
+      let amounts : All Passed amounts-tested =
+      each-all Passed (λ q. each-to (λ v. amount-tests m q v) (m .versions q)) (m .places) (λ q qa qb.
+      each-all Passed (λ v. amount-tests m q v) (m .versions q) (λ v va vb.
+      each-all Passed (λ k. test (leb (natAbs (m .amount (k - 1) q v)) greatest-amount) (fault-at AmountBeyond q v (k - 1)) ∷ []) (m .rows) (λ k ka kb.
+      let low : k - 1 ≤ last-row s = omega (arith, f .same-rows) in
+      let there : q ≤ s .places = omega (arith, f .same-places) in
+      (passed-test _ (fault-at AmountBeyond q v (k - 1)) (le-leb _ _ (f .amounts (k - 1) q v low qa there va vb)), tt)))) in
+      let counts = passed-test _ (fault CountOutside) (and-from _ _ (le-leb 1 (s .places) (f .some-place)) (and-from _ _ (le-leb (s .places) 16 (f .few-places)) (le-leb (last-row s) 8 (f .few-rows)))) in
+      let once = passed-test _ (fault OrderNotOnce) (and-from _ _ (eq-eqb _ _ (f .order .0)) (contained-all (s .places) (order-of s) (f .order .1))) in
+      let same = passed-test _ (fault-at CountsDiffer (m .places) 0 (m .rows)) (and-from _ _ (eq-eqb _ _ (f .same-places)) (eq-eqb _ _ (f .same-rows))) in
+      none-first (tests m s) (counts, (limit 0 (omega arith), all-both Passed (each-to (row-tests s) (last-row s)) (_ ∷ _ ∷ amounts-tested) rows (once, (same, amounts))))
+
+pub opening-law : Opening-law
+opening-law m s = (none-faultless m s, faultless-none m s)

@@ -1,0 +1,16 @@
+pub mod Bounds
+pub mod Joinings
+pub mod Catalogues
+pub mod Sheets
+pub mod Choices
+pub mod Refusals
+pub mod Openings
+pub mod Grounds
+pub mod Search
+pub mod Calls
+pub mod Histories
+pub mod Settings
+pub mod Promises
+pub mod Records
+pub mod Theorems
+pub mod Examples
