@@ -19,10 +19,10 @@ use Rattle.rules.specs.declared.kinds.Kind.{Kind}
 use Rattle.rules.specs.declared.kinds.Kind.the-variants.{SumAtMost}
 use Rattle.rules.specs.declared.sheets.Sheet.{Sheet}
 use Rattle.rules.specs.Bounds.{greatest-amount}
-use Rattle.rules.specs.Joinings.{Laws, kind-numbered}
+use Rattle.rules.specs.Joinings.{Laws, joined-over, kind-numbered}
 use Rattle.rules.specs.Catalogues.{Meaning, Sound-meaning, has-amount, has-place}
 use Rattle.rules.specs.Sheets.{Limits, joining-found, joining-of, kind-of, last-row, order-of}
-use Rattle.rules.specs.Choices.{Best-keeps, Cheapest, Choice, Closes, Keeps, No-choice, Stands-at, capped, joined-to, price, total, version}
+use Rattle.rules.specs.Choices.{Best-keeps, Cheapest, Choice, Closes, Keeps, No-choice, Stands-at, capped, price, total, version}
 use Rattle.rules.specs.Openings.{Faultless}
 use Rattle.rules.specs.Grounds.{Ground, Part, Proper, Setting, Sound-setting, part-price, part-total}
 use Rattle.rules.specs.Settings.{True-ground, amount-in, best-by-place, by-place, by-position, closing-lines, place-at, setting, version-in, versions-in, versions-to}
@@ -30,7 +30,7 @@ use Rattle.rules.proofs.ByPosition.{Amounts-near, Complete, Lines-stand-at, Pa
 use Rattle.rules.proofs.JoiningLaws.{kind-laws}
 use Rattle.rules.proofs.Learning.{Sound}
 use Rattle.rules.proofs.CallHistories.{Part-best}
-use Rattle.rules.proofs.Orders.{Offer, Chosen, joined-places, choice-in-order, total-in-order, once-fine, find-map, map-same, versions-there, any-of}
+use Rattle.rules.proofs.Orders.{Offer, Chosen, choice-in-order, total-in-order, once-fine, find-map, map-same, versions-there, any-of}
 
 found-laws : (o : Option Kind) → Laws (joining-found o)
 found-laws None = kind-laws SumAtMost
@@ -76,7 +76,7 @@ module _ (m : Meaning) (w : Sound-meaning m) (s : Sheet) (f : Faultless m s) whe
   pub choice-by-position : (d : List ℕ) → Choice m s d → Complete S (by-position s d)
   choice-by-position d h = choice-in-order (offer m s) (order-of s) (f .order) (version d) (chosen d h)
 
-  joined-agree : (row : ℕ) → row ≤ last-row s → (d : List ℕ) → Choice m s d → (q : ℕ) → q ≤ s .places → joined-places (offer m s) row (version d) q ≡ joined-to m s row d q
+  joined-agree : (row : ℕ) → row ≤ last-row s → (d : List ℕ) → Choice m s d → (q : ℕ) → q ≤ s .places → joined-over (joining-of s row) (λ x. amount-in m row x (version d x)) q ≡ joined-over (joining-of s row) (λ x. m .amount row x (version d x)) q
   joined-agree row r d h zero b = refl
   joined-agree row r d h (suc q) b =
       let k = h .1 (suc q) (omega arith) b in

@@ -11,9 +11,9 @@ use lib.ListN.{length, getD, length-append, length-map}
 use Rattle.std.specs.shelf.Lists.{All}
 use Rattle.std.proofs.shelf.Elements.{all-weaker}
 use Rattle.std.proofs.shelf.Tests.{cond-true, cond-false, eq-eqb, ne-eqb, cases-eq}
-use Rattle.rules.specs.Joinings.{Joining, Laws, onto}
+use Rattle.rules.specs.Joinings.{Joining, Laws, joined-over, onto}
 use Rattle.rules.specs.Sheets.{Any, Each-once}
-use Rattle.rules.specs.Grounds.{Part, Proper, Setting, joined-above, open-places, part-total}
+use Rattle.rules.specs.Grounds.{Part, Proper, Setting, open-places, part-total}
 use Rattle.rules.specs.Settings.{place-at, version-in}
 use Rattle.rules.proofs.ByPosition.{Complete}
 use Rattle.rules.proofs.Joined.{joined-on}
@@ -40,11 +40,6 @@ in-order O order =
 -- a version that there is, for each place
 abbrev pub Chosen : Offer → (ℕ → ℕ) → Type 0
 Chosen O choice = (q : ℕ) → 1 ≤ q → q ≤ O .places → (1 ≤ choice q) × (choice q ≤ O .versions q)
-
--- the row's amounts joined over the places from 1 to q
-abbrev pub joined-places : Offer → ℕ → (ℕ → ℕ) → ℕ → ℤ
-joined-places O row choice zero = O .joining row .unit
-joined-places O row choice (suc q) = onto (O .joining row) (joined-places O row choice q) (O .amount row (suc q) (choice (suc q)))
 
 -- ys is xs with q put in
 data Inserted (q : ℕ) : List ℕ → List ℕ → Type 0 where
@@ -94,10 +89,10 @@ once-fine (suc n) ys h =
       inserted-distinct (r .1) (all-weaker (λ x. (1 ≤ x) × (x ≤ n)) (λ y. suc n ≡ y → ⊥) (λ x p e. omega (arith, p .1)) (r .0) (f .0)) (f .1),
     )
 
-module _ (J : Joining) (laws : Laws J) (k : ℤ) (f : ℕ → ℤ) where
-  -- joined over a list
+module _ (J : Joining) (laws : Laws J) (f : ℕ → ℤ) where
+  -- joined onto the unit over a list
   over : List ℕ → ℤ
-  over [] = k
+  over [] = J .unit
   over (x ∷ xs) = J .join (over xs) (f x)
 
   swap-last : (a b c : ℤ) → J .join (J .join a b) c ≡ J .join (J .join a c) b
@@ -108,13 +103,8 @@ module _ (J : Joining) (laws : Laws J) (k : ℤ) (f : ℕ → ℤ) where
   over-inserted here = refl
   over-inserted {q} (there {x = x} {xs = xs} i) = ap (λ z. J .join z (f x)) (over-inserted i) ∙ swap-last (over xs) (f q) (f x)
 
-  -- joined from 1 up to a number
-  up-to : ℕ → ℤ
-  up-to zero = k
-  up-to (suc q) = J .join (up-to q) (f (suc q))
-
-  over-once : (n : ℕ) (ys : List ℕ) → Each-once n ys → over ys ≡ up-to n
-  unfolding over up-to
+  over-once : (n : ℕ) (ys : List ℕ) → Each-once n ys → over ys ≡ joined-over J f n
+  unfolding over
   over-once zero [] h = refl
   over-once zero (y ∷ ys) h = absurd (omega (arith, h .0))
   over-once (suc n) ys h =
@@ -161,19 +151,14 @@ module _ (O : Offer) (order : List ℕ) (once : Each-once (O .places) order) whe
         proper choice (pre ++ (q ∷ [])) rest (more-pre pre q rest e) (h .1),
       )
 
-  summed : (row : ℕ) (laws : Laws (O .joining row)) (k : ℤ) (choice : ℕ → ℕ) (pre rest : List ℕ) → pre ++ rest ≡ order → joined-above (in-order O order) row 0 k (map choice rest) ≡ over (O .joining row) laws k (λ q. O .amount row q (choice q)) rest
+  summed : (row : ℕ) (laws : Laws (O .joining row)) (choice : ℕ → ℕ) (pre rest : List ℕ) → pre ++ rest ≡ order → part-total (in-order O order) row (map choice rest) ≡ over (O .joining row) laws (λ q. O .amount row q (choice q)) rest
   unfolding over
-  summed row laws k choice pre [] e = refl
-  summed row laws k choice pre (q ∷ rest) e =
+  summed row laws choice pre [] e = refl
+  summed row laws choice pre (q ∷ rest) e =
       let l : length (map choice rest) ≡ length rest = length-map rest choice in
       let some : 0 < open-places (in-order O order) (map choice rest) = omega (arith, rest-length pre (q ∷ rest) e) in
-      joined-on (in-order O order) row 0 k (choice q) (map choice rest) some
-      ∙ ap₂ (λ x y. O .joining row .join x (O .amount row y (choice q))) (summed row laws k choice (pre ++ (q ∷ [])) rest (more-pre pre q rest e)) (position pre q rest e (map choice rest) l)
-
-  up-to-places : (row : ℕ) (laws : Laws (O .joining row)) (choice : ℕ → ℕ) (q : ℕ) → up-to (O .joining row) laws (O .joining row .unit) (λ x. O .amount row x (choice x)) q ≡ joined-places O row choice q
-  unfolding up-to
-  up-to-places row laws choice zero = refl
-  up-to-places row laws choice (suc q) = ap (λ x. O .joining row .join x (O .amount row (suc q) (choice (suc q)))) (up-to-places row laws choice q)
+      joined-on (in-order O order) row 0 (O .joining row .unit) (choice q) (map choice rest) some
+      ∙ ap₂ (λ x y. O .joining row .join x (O .amount row y (choice q))) (summed row laws choice (pre ++ (q ∷ [])) rest (more-pre pre q rest e)) (position pre q rest e (map choice rest) l)
 
   -- the versions of a choice by position are there for its places
   pub versions-there : (choice : ℕ → ℕ) (pre rest : List ℕ) → pre ++ rest ≡ order → Proper (in-order O order) (map choice rest) → All (λ x. (1 ≤ choice x) × (choice x ≤ O .versions x)) rest
@@ -194,6 +179,5 @@ module _ (O : Offer) (order : List ℕ) (once : Each-once (O .places) order) whe
   )
 
   -- it does not matter in which order the places are taken
-  pub total-in-order : (row : ℕ) → Laws (O .joining row) → (choice : ℕ → ℕ) → part-total (in-order O order) row (map choice order) ≡ joined-places O row choice (O .places)
-  total-in-order row laws choice =
-      summed row laws (O .joining row .unit) choice [] order refl ∙ over-once (O .joining row) laws (O .joining row .unit) (λ x. O .amount row x (choice x)) (O .places) order once ∙ up-to-places row laws choice (O .places)
+  pub total-in-order : (row : ℕ) → Laws (O .joining row) → (choice : ℕ → ℕ) → part-total (in-order O order) row (map choice order) ≡ joined-over (O .joining row) (λ q. O .amount row q (choice q)) (O .places)
+  total-in-order row laws choice = summed row laws choice [] order refl ∙ over-once (O .joining row) laws (λ x. O .amount row x (choice x)) (O .places) order once

@@ -3,7 +3,7 @@
 use mathlib.Core.Path.{_≡_}
 use mathlib.Core.Bool.{true, false, cond}
 use mathlib.Core.List.{List, [], _∷_}
-use Prim.Native.Nat.{ℕ, zero, suc, _+_, _-_, _*_, _≤_, _<_}
+use Prim.Native.Nat.{ℕ, _+_, _-_, _*_, _≤_, _<_}
 use lib.IntN.{ℤ, pos, natAbs, _-ℤ_}
 use lib.Dec.{eqb}
 use lib.ListN.{length, getD}
@@ -14,7 +14,7 @@ use Rattle.std.specs.shelf.Lists.{All}
 use Rattle.rules.specs.declared.lines.ClosingLine.{ClosingLine}
 use Rattle.rules.specs.declared.sheets.Sheet.{Sheet}
 use Rattle.rules.specs.Bounds.{amount-reach, greatest-amount}
-use Rattle.rules.specs.Joinings.{onto}
+use Rattle.rules.specs.Joinings.{joined-over}
 use Rattle.rules.specs.Catalogues.{Meaning}
 use Rattle.rules.specs.Sheets.{Limits, last-row, joining-of}
 
@@ -35,14 +35,9 @@ module _ (m : Meaning) (s : Sheet) where
   abbrev pub Choice : List ℕ → Type 0
   Choice c = (length c ≡ s .places) × ((q : ℕ) → 1 ≤ q → q ≤ s .places → (1 ≤ version c q) × (version c q ≤ m .versions q))
 
-  -- A row's amounts joined over the places from 1 up to one.
-  abbrev pub joined-to : ℕ → List ℕ → ℕ → ℤ
-  joined-to row c zero = joining-of s row .unit
-  joined-to row c (suc q) = onto (joining-of s row) (joined-to row c q) (m .amount row (suc q) (version c (suc q)))
-
   -- A row's total: its amounts joined over all places.
   abbrev pub total : ℕ → List ℕ → ℤ
-  total row c = joined-to row c (s .places)
+  total row c = joined-over (joining-of s row) (λ q. m .amount row q (version c q)) (s .places)
 
   -- A choice costs its total of row 0.
   abbrev pub price : List ℕ → ℤ

@@ -1,7 +1,7 @@
 -- How the amounts of a row are joined, and which of two is worse. Assumes nothing.
 use mathlib.Core.Path.{_≡_}
 use mathlib.Core.Bool.{Bool, true, false, not, cond}
-use Prim.Native.Nat.{ℕ, _+_, _-_, _≤_}
+use Prim.Native.Nat.{ℕ, zero, suc, _+_, _-_, _≤_}
 use lib.IntN.{ℤ, pos, negsuc, natAbs, _+ℤ_}
 use lib.Signed.{ltZ}
 use lib.Dec.{eqb}
@@ -38,6 +38,11 @@ pub record Laws (J : Joining) : Type 0 where
 -- One amount joined onto what is joined so far.
 abbrev pub onto : Joining → ℤ → ℤ → ℤ
 onto J k amount = J .join k amount
+
+-- The amounts numbered from 1 up to one, joined onto the unit one after the other.
+abbrev pub joined-over : Joining → (ℕ → ℤ) → ℕ → ℤ
+joined-over J amount zero = J .unit
+joined-over J amount (suc q) = onto J (joined-over J amount q) (amount (suc q))
 
 -- The amounts are added, and the greater is worse.
 abbrev pub sum-at-most : Joining
