@@ -19,8 +19,8 @@ use Rattle.rules.specs.declared.kinds.Kind.{Kind}
 use Rattle.rules.specs.declared.kinds.Kind.the-variants.{SumAtMost}
 use Rattle.rules.specs.declared.sheets.Sheet.{Sheet}
 use Rattle.rules.specs.Bounds.{greatest-amount}
-use Rattle.rules.specs.Joinings.{Laws, joined-over, kind-numbered}
-use Rattle.rules.specs.Catalogues.{Meaning, Sound-meaning, has-amount, has-place}
+use Rattle.rules.specs.Joinings.{Laws, kind-numbered}
+use Rattle.rules.specs.Catalogues.{Meaning, Sound-meaning}
 use Rattle.rules.specs.Sheets.{Limits, joining-found, joining-of, kind-of, last-row, order-of}
 use Rattle.rules.specs.Choices.{Best-keeps, Cheapest, Choice, Closes, Keeps, No-choice, Stands-at, capped, price, total, version}
 use Rattle.rules.specs.Openings.{Faultless}
@@ -28,6 +28,7 @@ use Rattle.rules.specs.Grounds.{Ground, Part, Proper, Setting, Sound-setting, 
 use Rattle.rules.specs.Settings.{True-ground, amount-in, best-by-place, by-place, by-position, closing-lines, place-at, setting, version-in, versions-in, versions-to}
 use Rattle.rules.proofs.ByPosition.{Amounts-near, Complete, Lines-stand-at, Part-closes, Part-keeps, Part-least, one-under}
 use Rattle.rules.proofs.JoiningLaws.{kind-laws}
+use Rattle.rules.proofs.Inside.{versions-inside, amount-inside, joined-same}
 use Rattle.rules.proofs.Learning.{Sound}
 use Rattle.rules.proofs.CallHistories.{Part-best}
 use Rattle.rules.proofs.Orders.{Offer, Chosen, choice-in-order, total-in-order, once-fine, find-map, map-same, versions-there, any-of}
@@ -62,13 +63,10 @@ module _ (m : Meaning) (w : Sound-meaning m) (s : Sheet) (f : Faultless m s) whe
   S = setting m s
 
   versions-agree : (q : ℕ) → 1 ≤ q → q ≤ s .places → versions-in m q ≡ m .versions q
-  versions-agree q a b = cond-true (has-place m q) _ _ (and-from _ _ (le-leb 1 q a) (le-leb q (m .places) (omega (arith, f .same-places))))
+  versions-agree q a b = versions-inside m q a (omega (arith, f .same-places))
 
   amount-agree : (row q v : ℕ) → row ≤ last-row s → 1 ≤ q → q ≤ s .places → 1 ≤ v → v ≤ m .versions q → amount-in m row q v ≡ m .amount row q v
-  amount-agree row q v r a b x y =
-      cond-true (has-amount m row q v) _ _
-      (and-from _ _ (lt-ltb row (m .rows) (omega (arith, f .same-rows)))
-      (and-from _ _ (and-from _ _ (le-leb 1 q a) (le-leb q (m .places) (omega (arith, f .same-places)))) (and-from _ _ (le-leb 1 v x) (le-leb v (m .versions q) y))))
+  amount-agree row q v r a b x y = amount-inside m row q v (omega (arith, f .same-rows)) a (omega (arith, f .same-places)) x y
 
   chosen : (d : List ℕ) → Choice m s d → Chosen (offer m s) (version d)
   chosen d h q a b = let k = h .1 q a b in (k .0, subst (λ x. version d q ≤ x) (sym (versions-agree q a b)) (k .1))
@@ -76,14 +74,10 @@ module _ (m : Meaning) (w : Sound-meaning m) (s : Sheet) (f : Faultless m s) whe
   pub choice-by-position : (d : List ℕ) → Choice m s d → Complete S (by-position s d)
   choice-by-position d h = choice-in-order (offer m s) (order-of s) (f .order) (version d) (chosen d h)
 
-  joined-agree : (row : ℕ) → row ≤ last-row s → (d : List ℕ) → Choice m s d → (q : ℕ) → q ≤ s .places → joined-over (joining-of s row) (λ x. amount-in m row x (version d x)) q ≡ joined-over (joining-of s row) (λ x. m .amount row x (version d x)) q
-  joined-agree row r d h zero b = refl
-  joined-agree row r d h (suc q) b =
-      let k = h .1 (suc q) (omega arith) b in
-      ap₂ (joining-of s row .join) (joined-agree row r d h q (omega arith)) (amount-agree row (suc q) (version d (suc q)) r (omega arith) b (k .0) (k .1))
-
   pub total-agree : (row : ℕ) → row ≤ last-row s → (d : List ℕ) → Choice m s d → part-total S row (by-position s d) ≡ total m s row d
-  total-agree row r d h = total-in-order (offer m s) (order-of s) (f .order) row (found-laws (kind-numbered (kind-of s row))) (version d) ∙ joined-agree row r d h (s .places) (omega arith)
+  total-agree row r d h =
+      total-in-order (offer m s) (order-of s) (f .order) row (found-laws (kind-numbered (kind-of s row))) (version d)
+      ∙ joined-same (joining-of s row) _ _ (s .places) (λ q a b. let k = h .1 q a b in amount-agree row q (version d q) r a b (k .0) (k .1))
 
   in-range : All (λ x. (1 ≤ x) × (x ≤ s .places)) (order-of s)
   in-range = once-fine (s .places) (order-of s) (f .order) .0

@@ -13,6 +13,7 @@ pub mod Replies
 pub mod Shapes
 pub mod Merging
 pub mod CallHistories
+pub mod Inside
 pub mod Orders
 pub mod ByPlace
 pub mod Counts
