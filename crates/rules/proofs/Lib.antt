@@ -1,5 +1,6 @@
 pub mod Bools
 pub mod JoiningLaws
+pub mod KindNumbers
 pub mod ByPosition
 pub mod Joined
 pub mod StandingLines

@@ -13,19 +13,17 @@ use Rattle.std.specs.declared.option.Option.{Option}
 use Rattle.std.specs.declared.option.Option.the-variants.{Some, None}
 use Rattle.std.specs.shelf.Lists.{All}
 use Rattle.std.proofs.shelf.Tests.{and-parts, and-from, or-cases, or-left, or-right, leb-true, le-leb, eqb-true, eq-eqb, cases-lt, cases-eq, ne-eqb, cond-true, cond-false}
-use Rattle.rules.specs.declared.kinds.Kind.{Kind}
-use Rattle.rules.specs.declared.kinds.Kind.the-variants.{GreatestAtMost, SumAtLeast, SumAtMost}
 use Rattle.rules.specs.declared.refusals.Fault.{Fault}
 use Rattle.rules.specs.declared.refusals.Refusal.the-variants.{AmountBeyond, CountOutside, CountsDiffer, LimitBeyond, OrderNotOnce, UnknownKind}
 use Rattle.rules.specs.declared.sheets.Sheet.{Sheet}
 use Rattle.rules.specs.Bounds.{greatest-amount, greatest-limit}
-use Rattle.rules.specs.Joinings.{kind-number, kind-numbered}
+use Rattle.rules.specs.Joinings.{kind-numbered}
 use Rattle.rules.specs.Catalogues.{Meaning}
 use Rattle.rules.specs.Sheets.{Any, kind-of, last-row, limit-of, order-of}
 use Rattle.rules.specs.Refusals.{fault, fault-at}
 use Rattle.rules.specs.Openings.{Faultless, amount-tests, contains, contains-all, each-to, first-fault, limit-test, opening, row-tests, test, tests}
 use Rattle.rules.specs.Theorems.{Opening-law}
-use Rattle.rules.proofs.Bools.{clash}
+use Rattle.rules.proofs.KindNumbers.{kind-there, there-kind}
 
 -- a test finds nothing
 abbrev Passed : Option Fault → Type 0
@@ -98,25 +96,6 @@ contained-all : (n : ℕ) (xs : List ℕ) → ((q : ℕ) → 1 ≤ q → q ≤ n
 contained-all zero xs h = refl
 contained-all (suc n) xs h =
     and-from (contains-all n xs) (contains (suc n) xs) (contained-all n xs (λ q a b. h q a (omega arith))) (any-contains (suc n) xs (h (suc n) (omega arith) (omega arith)))
-
--- a number for which a kind is found is the number of one, and the other way round
-kind-there : (n : ℕ) → isSome (kind-numbered n) ≡ true → (k : Kind) × (kind-number k ≡ n)
-kind-there n h =
-    elim (cases-eq n 1) [
-      | inl a ↦ (SumAtMost, sym a)
-      | inr a ↦ elim (cases-eq n 2) [
-        | inl b ↦ (SumAtLeast, sym b)
-        | inr b ↦ elim (cases-eq n 3) [
-          | inl c ↦ (GreatestAtMost, sym c)
-          | inr c ↦ clash h (ap isSome (cond-false (eqb n 1) _ _ (ne-eqb n 1 a) ∙ cond-false (eqb n 2) _ _ (ne-eqb n 2 b) ∙ cond-false (eqb n 3) _ _ (ne-eqb n 3 c)))
-        ]
-      ]
-    ]
-
-there-kind : (k : Kind) → isSome (kind-numbered (kind-number k)) ≡ true
-there-kind SumAtMost = refl
-there-kind SumAtLeast = refl
-there-kind GreatestAtMost = refl
 
 module _ (m : Meaning) (s : Sheet) where
   abbrev amounts-tested : List (Option Fault)

@@ -1,0 +1,5 @@
+pub mod Nears
+pub mod KeptRows
+pub mod Versions
+pub mod FirstCheapest
+pub mod RightAnswers
