@@ -5,3 +5,6 @@ mod trials;
 
 pub use found::Found;
 pub use trials::cheapest;
+
+#[cfg(test)]
+mod tests;

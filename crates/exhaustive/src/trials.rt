@@ -46,13 +46,9 @@ fn cheaper(first: Option<Found>, second: Option<Found>) -> Option<Found>
     ensures { λ r. ⌜ r ≡ cheaper-of first second ⌝ }
 {
     match (first, second) {
+        (Some(first), Some(second)) if second.price < first.price => Some(second),
+        (Some(first), _) => Some(first),
         (None, second) => second,
-        (first, None) => first,
-        (Some(first), Some(second)) => if second.price < first.price {
-            Some(second)
-        } else {
-            Some(first)
-        },
     }
 }
 

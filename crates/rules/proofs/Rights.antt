@@ -18,7 +18,7 @@ use Rattle.rules.specs.Calls.{Finding, Job, closed, filled, least, nothing, ru
 use Rattle.rules.specs.Histories.{Entry, History, began-with, called, learned-of, limits-of, opened, steps-run}
 use Rattle.rules.specs.Settings.{True-ground, setting, told}
 use Rattle.rules.specs.Promises.{Few-steps, Right, Right-throughout, Says, Steps-named, by-run, by-verdict}
-use Rattle.rules.specs.Theorems.{Ground-law}
+use Rattle.rules.specs.Theorems.{Ground-law, Promise-law}
 use Rattle.rules.proofs.Learning.{learnable-sound}
 use Rattle.rules.proofs.Potential.{parts}
 use Rattle.rules.proofs.CallHistories.{Found-right, Counted, Kept, invariant, counted, found-right, all-kept, held, all-limits, last-budget}
@@ -73,6 +73,9 @@ module _ (m : Meaning) (w : Sound-meaning m) (s : Sheet) (f : Faultless m s) whe
   pub right-throughout : {es : List Entry} {j : Job} (h : History S (limit-of s) es j) → Right-throughout m s h
   right-throughout opened = right opened
   right-throughout (called h d) = (right-throughout h, right (called h d))
+
+pub promise-law : Promise-law
+promise-law m w s f es j h = right-throughout m w s f h
 
 pub ground-law : Ground-law
 ground-law m w s f g l = true-by-place m w s f g (learnable-sound (setting m s) (sound-setting m w s f) l)

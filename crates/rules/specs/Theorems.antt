@@ -10,13 +10,14 @@ use Rattle.rules.specs.declared.records.CallRecord.{CallRecord}
 use Rattle.rules.specs.declared.refusals.Refusal.{Refusal}
 use Rattle.rules.specs.declared.sheets.Sheet.{Sheet}
 use Rattle.rules.specs.Catalogues.{Meaning, Sound-meaning}
-use Rattle.rules.specs.Sheets.{Limits, Any}
+use Rattle.rules.specs.Sheets.{Limits, limit-of, Any}
 use Rattle.rules.specs.Openings.{opening, Faultless}
 use Rattle.rules.specs.Grounds.{Setting, Sound-setting, Part, Ground, Learnable, Ordered, open-places, moved, learn-from}
 use Rattle.rules.specs.Search.{State, Outcome, Named, next}
 use Rattle.rules.specs.Calls.{Job, Call, Answer, refused, Does, reply}
 use Rattle.rules.specs.Histories.{Entry, History, unplayed, play}
 use Rattle.rules.specs.Settings.{setting, True-ground}
+use Rattle.rules.specs.Promises.{Right-throughout}
 use Rattle.rules.specs.Records.{requests, Lawful, work-records, work-job}
 
 -- At every state the rules name one outcome, which `next` works out.
@@ -62,6 +63,11 @@ Learning-law =
 -- An opening finds a fault exactly when there is one.
 abbrev pub Opening-law : Type 0
 Opening-law = (m : Meaning) (s : Sheet) → (opening m s ≡ None → Faultless m s) × (Faultless m s → opening m s ≡ None)
+
+-- With every catalogue that keeps its bounds and every sheet with which a job opens without fault, along every history of calls, what is promised holds at every time.
+abbrev pub Promise-law : Type 0
+Promise-law =
+    (m : Meaning) → Sound-meaning m → (s : Sheet) → Faultless m s → (es : List Entry) (j : Job) (h : History (setting m s) (limit-of s) es j) → Right-throughout m s h
 
 -- With every catalogue that keeps its bounds, every sheet and every list of call records, what is worked out is what the rules say, right at every time, and asks what was asked.
 abbrev pub Record-law : Type 0

@@ -1,6 +1,6 @@
 // What is proved of the rules: each function has a theorem for its contract, and answers nothing.
 ghost use Rattle.rules.specs.Examples.{Examples-hold};
-ghost use Rattle.rules.specs.Theorems.{Step-law, Call-law, History-law, Ground-law, Learning-law, Opening-law, Refusal-law, Record-law};
+ghost use Rattle.rules.specs.Theorems.{Step-law, Call-law, History-law, Ground-law, Learning-law, Opening-law, Refusal-law, Promise-law, Record-law};
 
 // At every state the rules name one outcome, which `next` works out.
 pub fn step_law()
@@ -35,6 +35,11 @@ pub fn learning_law()
 // An opening finds a fault exactly when there is one.
 pub fn opening_law()
     ensures { λ _. ⌜ Opening-law ⌝ }
+{}
+
+// At every time of every history of calls, what is promised holds.
+pub fn promise_law()
+    ensures { λ _. ⌜ Promise-law ⌝ }
 {}
 
 // What is worked out for a sheet, a catalogue and a list of call records is what the rules say, and right at every time.

@@ -18,6 +18,7 @@ pub use laws::ground_law;
 pub use laws::history_law;
 pub use laws::learning_law;
 pub use laws::opening_law;
+pub use laws::promise_law;
 pub use laws::record_law;
 pub use laws::refusal_law;
 pub use laws::step_law;
