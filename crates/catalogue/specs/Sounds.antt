@@ -53,13 +53,13 @@ abs-times : (k : ℕ) (z : ℤ) → natAbs (pos k *ℤ z) ≡ k * natAbs z
 abs-times k (pos n) = refl
 abs-times k (negsuc n) = abs-neg (k * suc n)
 
--- A version lies no further than this above or below the base of its rung.
-pub climb-near : (v : ℕ) (step : ℤ) → v < 2 ^ 8 → natAbs step ≤ 2 ^ 31 → natAbs (pos (v - 1) *ℤ step) ≤ 2 ^ 8 * 2 ^ 31
-climb-near v step small near =
-    let few : v - 1 ≤ 2 ^ 8 = omega arith in let m = mul-le-mul few near in omega (arith, abs-times (v - 1) step)
+-- So many steps lead no further than this.
+pub times-near : (k : ℕ) (step : ℤ) → k < 2 ^ 8 → natAbs step ≤ 2 ^ 31 → natAbs (pos k *ℤ step) ≤ 2 ^ 8 * 2 ^ 31
+times-near k step small near =
+    let few : k ≤ 2 ^ 8 = omega arith in let m = mul-le-mul few near in omega (arith, abs-times k step)
 
 rung-near : (g : Rung) (v : ℕ) → v < 2 ^ 8 → natAbs (rung (g .base) (g .step) v) ≤ amount-reach
-rung-near g v small = let climb = climb-near v (g .step) small (g .near .1) in omega (arith, ints, g .near .0)
+rung-near g v small = let climb = times-near (v - 1) (g .step) (omega arith) (g .near .1) in omega (arith, ints, g .near .0)
 
 pub ladder-sound : (rows filled : ℕ) (places : List LadderPlace) → Counted rows filled → Each-counted filled places → Sound-meaning (ladder-meaning rows filled places)
 ladder-sound rows filled places counts each = record {

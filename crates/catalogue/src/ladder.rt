@@ -29,7 +29,7 @@ const NO_PLACE: LadderPlace = LadderPlace {
 pub struct Ladder {
     rows: u8,
     // So many places are added.
-    filled: u8,
+    filled: usize,
     places: [LadderPlace; MOST_PLACES],
     ghost counted: { Counted rows filled },
     ghost each: { Each-counted filled places },
@@ -57,7 +57,7 @@ impl Ladder {
         ensures filled { λ r. ⌜ now (self .exit) .filled ≡ cond r (now (self .entry) .filled + 1) (now (self .entry) .filled) ⌝ }
         ensures places { λ r. ⌜ now (self .exit) .places ≡ cond r (with-place (now (self .entry) .filled) (now (self .entry) .places) count rungs) (now (self .entry) .places) ⌝ }
     {
-        let next = usize::from(self.filled);
+        let next = self.filled;
         if next >= MOST_PLACES || count < 1 || count > MOST_VERSIONS {
             return false;
         }
@@ -73,7 +73,7 @@ pub impl Catalogue for Ladder as LadderCatalogue {
     ghost sound = { λ s. ladder-sound (s .rows) (s .filled) (s .places) (s .counted) (s .each) };
 
     fn places(&self) -> u8 {
-        self.filled
+        self.filled as u8
     }
 
     fn rows(&self) -> u8 {
@@ -81,14 +81,14 @@ pub impl Catalogue for Ladder as LadderCatalogue {
     }
 
     fn versions(&self, place: u8) -> Option<u8> {
-        if place < 1 || place > self.filled {
+        if place < 1 || usize::from(place) > self.filled {
             return None;
         }
         Some(self.places[usize::from(place) - 1].count)
     }
 
     fn amount(&self, row: u8, place: u8, version: u8) -> Option<i64> {
-        if row >= self.rows || place < 1 || place > self.filled {
+        if row >= self.rows || place < 1 || usize::from(place) > self.filled {
             return None;
         }
         let chosen = &self.places[usize::from(place) - 1];

@@ -31,7 +31,7 @@ use Rattle.rules.proofs.Inside.{versions-inside, amount-inside, joined-same}
 use Rattle.rules.proofs.KindNumbers.{kind-there, there-kind}
 use Rattle.exhaustive.specs.declared.found.Found.{Found}
 use Rattle.exhaustive.specs.Answers.{Same-counts, Known-kinds, Before, named, First-cheapest, Right-answer}
-use Rattle.exhaustive.specs.Trials.{guarded, all-first, row-kept, all-kept, tested, counts-same, kind-known, kinds-known, tried, answer}
+use Rattle.exhaustive.specs.Trials.{guarded, all-first, row-kept, all-kept, tested, counts-same, kind-known, kinds-known, tried, all-tried, answer}
 use Rattle.exhaustive.proofs.KeptRows.{all-at, all-from}
 use Rattle.exhaustive.proofs.FirstCheapest.{Same-to, Going-on, No-later, First-of, Found-of, kept-same, total-same, tried-found}
 
@@ -144,8 +144,8 @@ module _ (m : Meaning) (w : Sound-meaning m) (s : Sheet) (same : Same-counts m s
   right-found known None h = (same, known, λ d c k. h d (going-on d c) (kept-of d c k))
   right-found known (Some f) h = (same, known, first-cheapest f h)
 
-  all-tried : Found-of G s (Going-on G s 0 none-set) (tried G s (s .places) none-set)
-  all-tried =
+  every-choice : Found-of G s (Going-on G s 0 none-set) (all-tried m s)
+  every-choice =
       let none : s .places - s .places ≡ 0 = omega arith in
       subst (λ i. Found-of G s (Going-on G s i none-set) (tried G s (s .places) none-set)) none (tried-found G s (s .places) none-set (omega arith) few (length-replicate {A = ℕ} most-places 0))
 
@@ -166,7 +166,7 @@ right-answer m w s =
     let p = and-parts _ _ e in
     let same : Same-counts m s = (eqb-true _ _ (p .0), eqb-true _ _ (p .1)) in
     cond-both (kinds-known s) _ _ (Right-answer m s)
-    (λ k. right-found m w s same (kinds-there s k) (tried (guarded m) s (s .places) (replicate most-places 0)) (all-tried m w s same))
+    (λ k. right-found m w s same (kinds-there s k) (all-tried m s) (every-choice m w s same))
     (λ k. inr (refl, same, λ known. clash (there-kinds s known) k)))
     (λ e. inl (refl, λ same. clash (and-from _ _ (eq-eqb _ _ (same .0)) (eq-eqb _ _ (same .1))) e))
 
@@ -199,6 +199,6 @@ module _ (m : Meaning) (s : Sheet) where
       let r = refused-at (kinds-known s) UnknownKind x h in
       ap Err (r .1) ∙ sym (cond-true (counts-same m s) _ _ (passed-at (counts-same m s) CountsDiffer c) ∙ cond-false (kinds-known s) _ _ (r .0))
 
-  pub both-passed : Ok tt ≡ tested (counts-same m s) CountsDiffer → Ok tt ≡ tested (kinds-known s) UnknownKind → Ok (tried (guarded m) s (s .places) (replicate most-places 0)) ≡ answer m s
+  pub both-passed : Ok tt ≡ tested (counts-same m s) CountsDiffer → Ok tt ≡ tested (kinds-known s) UnknownKind → Ok (all-tried m s) ≡ answer m s
   both-passed c h =
       sym (cond-true (counts-same m s) _ _ (passed-at (counts-same m s) CountsDiffer c) ∙ cond-true (kinds-known s) _ _ (passed-at (kinds-known s) UnknownKind h))

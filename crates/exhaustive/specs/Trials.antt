@@ -60,6 +60,10 @@ module _ (m : Meaning) (s : Sheet) where
   tried zero c = judged c
   tried (suc left) c = cheapest-to (λ v. tried left (set c (s .places - suc left) v)) (m .versions (s .places - left))
 
+-- The cheapest of all choices, each version of the table being 0 at first.
+abbrev pub all-tried : Meaning → Sheet → Option Found
+all-tried m s = tried (guarded m) s (s .places) (replicate most-places 0)
+
 -- A test passes, or refuses.
 abbrev pub tested : Bool → Refusal → Result (Unit {0}) Refusal
 tested good e = cond good (Ok tt) (Err e)
@@ -76,9 +80,9 @@ kind-known s row = isSome (kind-numbered (kind-of s row))
 abbrev pub kinds-known : Sheet → Bool
 kinds-known s = all-first (kind-known s) (suc (last-row s))
 
--- What is answered: a refusal, or the cheapest of all choices, each version of the table being 0 at first.
+-- What is answered: a refusal, or the cheapest of all choices.
 abbrev pub answer : Meaning → Sheet → Result (Option Found) Refusal
 answer m s =
     cond (counts-same m s)
-    (cond (kinds-known s) (Ok (tried (guarded m) s (s .places) (replicate most-places 0))) (Err UnknownKind))
+    (cond (kinds-known s) (Ok (all-tried m s)) (Err UnknownKind))
     (Err CountsDiffer)

@@ -6,7 +6,7 @@ ghost use Rattle.rules.specs.Sheets.{last-row};
 ghost use Rattle.rules.specs.Settings.{versions-in};
 ghost use Rattle.exhaustive.specs.Answers.{Right-answer};
 ghost use Rattle.rules.specs.declared.refusals.Refusal.the-variants.{CountsDiffer, UnknownKind};
-ghost use Rattle.exhaustive.specs.Trials.{guarded, all-kept, judged, cheaper as cheaper-of, tried, tested, counts-same, kinds-known, answer};
+ghost use Rattle.exhaustive.specs.Trials.{guarded, all-kept, judged, cheaper as cheaper-of, tried, all-tried, tested, counts-same, kinds-known, answer};
 use crate::found::Found;
 use crate::totals::keeps_row;
 use crate::totals::kind_of;
@@ -85,6 +85,14 @@ fn try_last<C: Catalogue>(
     best
 }
 
+// The cheapest of all choices.
+fn try_all<C: Catalogue>(sheet: &Sheet, catalogue: &C) -> Option<Found>
+    requires { ⌜ now sheet .places ≤ most-places ⌝ ∗ ⌜ last-row (now sheet) ≤ greatest-row ⌝ }
+    ensures { λ r. ⌜ r ≡ all-tried (C·Catalogue .meaning (now (catalogue .entry))) (now (sheet .entry)) ⌝ }
+{
+    try_last(sheet, catalogue, sheet.places, [0; MOST_PLACES])
+}
+
 // Refuses a sheet that has other counts than the catalogue.
 fn same_counts<C: Catalogue>(sheet: &Sheet, catalogue: &C) -> Result<(), Refusal>
     ensures { λ r. ⌜ r ≡ tested (counts-same (C·Catalogue .meaning (now (catalogue .entry))) (now (sheet .entry))) CountsDiffer ⌝ }
@@ -118,5 +126,5 @@ pub fn cheapest<C: Catalogue>(sheet: &Sheet, catalogue: &C) -> Result<Option<Fou
 {
     same_counts(sheet, catalogue)?;
     known_kinds(sheet)?;
-    Ok(try_last(sheet, catalogue, sheet.places, [0; MOST_PLACES]))
+    Ok(try_all(sheet, catalogue))
 }

@@ -26,5 +26,5 @@ pub returns : need.returns
 returns g c =
     let m = g .C·Catalogue .meaning (c .args .catalogue .now) in
     let s = c .args .sheet .now in
-    let is : Ok (c .try-last .result) ≡ answer m s = ap Ok (c .try-last .ensures) ∙ both-passed m s (c .in-Continue-same-counts .ensures tt) (c .in-Continue-known-kinds .ensures tt) in
+    let is : Ok (c .try-all .result) ≡ answer m s = ap Ok (c .try-all .ensures) ∙ both-passed m s (c .in-Continue-same-counts .ensures tt) (c .in-Continue-known-kinds .ensures tt) in
     record { is = is; right = right-where m (g .C·Catalogue .sound (c .args .catalogue .now)) s _ is }
