@@ -9,11 +9,12 @@ use Rattle.std.specs.declared.option.Option.{Option}
 use Rattle.std.specs.declared.option.Option.the-variants.{Some, None}
 use Rattle.std.specs.shelf.Lists.{All}
 use Rattle.std.proofs.shelf.Tests.{cases-lt}
+use Rattle.rules.specs.declared.refusals.Refusal.{Refusal}
 use Rattle.rules.specs.Sheets.{Limits}
 use Rattle.rules.specs.Choices.{changed}
 use Rattle.rules.specs.Grounds.{Ground, Learnable, Part, Setting, Sound-setting}
 use Rattle.rules.specs.Search.{Ended, Full, Named, Outcome, Runs, State, Step, ended, found, full, give-way, more, move, none, set, start, stay, stepped}
-use Rattle.rules.specs.Calls.{Answer, Call, Does, Finding, Job, Run, Verdict, Why, budget-used, change-beyond, change-no-row, change-taken, clear-taken, close-taken, closed, filled, finding-at, least, no-change, no-clear, no-close, no-run, no-search, nothing, ran, run, run-beyond, run-negative, run-taken, running, search-taken, unfinished, when-ended, why}
+use Rattle.rules.specs.Calls.{Answer, Call, Does, Finding, Job, Run, Verdict, Why, budget-used, changes, clears, closed, closes, filled, finding-at, least, nothing, ran, refused, refuses, run, running, runs, searches, unfinished, when-ended, why}
 use Rattle.rules.specs.Histories.{Budget-kept, Entry, History, Last-budget-kept, began-with, called, grounds-after, learned-of, limits-after, limits-of, opened, steps-run}
 use Rattle.rules.proofs.ByPosition.{Complete, Part-closes, Part-keeps, Part-least}
 use Rattle.rules.proofs.Invariant.{Invariant, Space, Best-so-far, start-invariant, runs-invariant}
@@ -84,25 +85,22 @@ module _ (S : Setting) where
     found-right L σ full i n = best-kept L (σ .best) (σ .cap) (i .best)
     found-right L σ (stepped τ) i n = best-kept L (σ .best) (σ .cap) (i .best)
 
-    keeps : (began : List Ground) (es : List Entry) (j : Job) (c : Call) (a : Answer) (k : Job) → Kept began es j → Does S j c a k → Kept (grounds-after j c began) (record { call = c; answer = a } ∷ es) k
-    keeps b es j c a k h (change-taken p q) = (h .0, h .1, tt)
-    keeps b es j c a k h (change-no-row p) = h
-    keeps b es j c a k h (change-beyond p q) = h
-    keeps b es j c a k h clear-taken = (tt, (omega arith, omega arith), tt)
-    keeps b es j c a k h search-taken = (h .0, h .1, none, refl)
-    keeps b es j c a k h (run-taken {L} {σ} {τ} {made = made} p q) =
+    refusal-keeps : (b : List Ground) (es : List Entry) (j : Job) (c : Call) (e : Refusal) → Kept b es j → Kept b (record { call = c; answer = refused e } ∷ es) j
+    refusal-keeps b es (closed L gs None) c e h = h
+    refusal-keeps b es (closed L gs (Some v)) c e h = h
+    refusal-keeps b es (running L σ) c e h = h
+
+    keeps : (b : List Ground) (es : List Entry) (j : Job) (c : Call) (a : Answer) (k : Job) → Kept b es j → Does S j c a k → Kept (grounds-after a j c b) (record { call = c; answer = a } ∷ es) k
+    keeps b es j c a k h (refuses {e = e} r) = refusal-keeps b es j c e h
+    keeps b es j c a k h (changes p q) = (h .0, h .1, tt)
+    keeps b es j c a k h clears = (tt, (omega arith, omega arith), tt)
+    keeps b es j c a k h searches = (h .0, h .1, none, refl)
+    keeps b es j c a k h (runs {L} {σ} {τ} {made = made} p q) =
         let counts : τ .steps ≡ made + σ .steps = runs-count (q .steps) in
         (h .0, h .1, subst (λ n. Runs S L n (start S L b) τ) {y = τ .steps} (omega arith) (runs-join (h .2) (q .steps)), omega (arith, h .3))
-    keeps b es j c a k h (run-beyond p) = h
-    keeps b es j c a k h run-negative = h
-    keeps b es j c a k h (close-taken {L} {σ} o n) =
+    keeps b es j c a k h (closes {L} {σ} o n) =
         let i : Invariant S W L σ = invariant L b es σ h in
         (i .learnable, i .space, (counted L b es σ h, found-right L σ o i n))
-    keeps b es j c a k h no-run = h
-    keeps b es j c a k h no-close = h
-    keeps b es j c a k h no-change = h
-    keeps b es j c a k h no-clear = h
-    keeps b es j c a k h no-search = h
 
     pub all-kept : {L : Limits} {es : List Entry} {j : Job} (h : History S L es j) → Kept (began-with S h) es j
     all-kept opened = (tt, (omega arith, omega arith), tt)
@@ -115,27 +113,19 @@ module _ (S : Setting) where
 
   -- the limits in force
   limits-kept : (L : Limits) (es : List Entry) (j : Job) → limits-of j ≡ limits-after L es → (c : Call) (a : Answer) (k : Job) → Does S j c a k → limits-of k ≡ limits-after L (record { call = c; answer = a } ∷ es)
-  limits-kept L es j e c a k (change-taken {row = row} {limit = limit} p q) = ap (λ M. changed M row limit) e
-  limits-kept L es j e c a k (change-no-row p) = e
-  limits-kept L es j e c a k (change-beyond p q) = e
-  limits-kept L es j e c a k clear-taken = e
-  limits-kept L es j e c a k search-taken = e
-  limits-kept L es j e c a k (run-taken p q) = e
-  limits-kept L es j e c a k (run-beyond p) = e
-  limits-kept L es j e c a k run-negative = e
-  limits-kept L es j e c a k (close-taken o n) = e
-  limits-kept L es j e c a k no-run = e
-  limits-kept L es j e c a k no-close = e
-  limits-kept L es j e c a k no-change = e
-  limits-kept L es j e c a k no-clear = e
-  limits-kept L es j e c a k no-search = e
+  limits-kept L es j e c a k (refuses r) = e
+  limits-kept L es j e c a k (changes {row = row} {limit = limit} p q) = ap (λ M. changed M row limit) e
+  limits-kept L es j e c a k clears = e
+  limits-kept L es j e c a k searches = e
+  limits-kept L es j e c a k (runs p q) = e
+  limits-kept L es j e c a k (closes o n) = e
 
   pub all-limits : {L : Limits} {es : List Entry} {j : Job} → History S L es j → limits-of j ≡ limits-after L es
   all-limits opened = refl
   all-limits {L} {j = k} (called {es = fs} {j = j} {c = c} {a = a} h d) = limits-kept L fs j (all-limits h) c a k d
 
   -- the budget of a run
-  run-budget : {L : Limits} {b : ℕ} {σ : State} {w : Why} {k : ℕ} {τ : State} → Run S L b σ w k τ → Budget-kept S (run (pos b)) (ran w k) (running L τ)
+  run-budget : {L : Limits} {b : ℕ} {σ : State} {w : Why} {k : ℕ} {τ : State} → Run S L b σ w k τ → Budget-kept S (ran w k) (run (pos b)) (running L τ)
   run-budget {L} {b} {k = k} {τ = τ} r = by (r .outcome) (r .named) (λ e. r .used (r .reason-is ∙ e))
     where
       by : (o : Outcome) → Named S L τ o → (why o ≡ budget-used → k ≡ b) → (k ≡ b) ⊎ ((k < b) × (((g : Ground) × Ended S L τ g) ⊎ Full S L τ))
@@ -143,22 +133,13 @@ module _ (S : Setting) where
       by full n u = elim (cases-lt k b) [ inl h ↦ inr (h, inr n) | inr h ↦ inl (omega (arith, r .within)) ]
       by (stepped υ) n u = inl (u refl)
 
-  budget-kept : {j : Job} {c : Call} {a : Answer} {k : Job} → Does S j c a k → Budget-kept S c a k
-  budget-kept (change-taken p q) = tt
-  budget-kept (change-no-row p) = tt
-  budget-kept (change-beyond p q) = tt
-  budget-kept clear-taken = tt
-  budget-kept search-taken = tt
-  budget-kept (run-taken p q) = run-budget q
-  budget-kept (run-beyond p) = tt
-  budget-kept run-negative = tt
-  budget-kept (close-taken o n) = tt
-  budget-kept (no-run {budget = pos b}) = tt
-  budget-kept (no-run {budget = negsuc b}) = tt
-  budget-kept no-close = tt
-  budget-kept no-change = tt
-  budget-kept no-clear = tt
-  budget-kept no-search = tt
+  budget-kept : {j : Job} {c : Call} {a : Answer} {k : Job} → Does S j c a k → Budget-kept S a c k
+  budget-kept (refuses r) = tt
+  budget-kept (changes p q) = tt
+  budget-kept clears = tt
+  budget-kept searches = tt
+  budget-kept (runs p q) = run-budget q
+  budget-kept (closes o n) = tt
 
   pub last-budget : {L : Limits} {es : List Entry} {j : Job} → History S L es j → Last-budget-kept S es j
   last-budget opened = tt

@@ -21,7 +21,7 @@ use Rattle.rules.specs.Sheets.{Limits, last-row}
 use Rattle.rules.specs.Choices.{In-shape, Rising, Told, Well-told}
 use Rattle.rules.specs.Grounds.{Ground, Learnable, Ordered, Part, Setting, Sound-setting, Well-formed, before, ledger, line-stands, open-places, stands}
 use Rattle.rules.specs.Search.{Ended, Named, Outcome, State, ended, full, in-force, stepped}
-use Rattle.rules.specs.Calls.{Answer, Call, Does, Job, Verdict, change-beyond, change-no-row, change-taken, clear-taken, close-taken, closed, finding-at, no-change, no-clear, no-close, no-run, no-search, nothing, run-beyond, run-negative, run-taken, running, search-taken, when-ended}
+use Rattle.rules.specs.Calls.{Answer, Call, Does, Job, Verdict, changes, clears, closed, closes, finding-at, nothing, refuses, running, runs, searches, when-ended}
 use Rattle.rules.specs.Histories.{Entry, History, began-with, called, learned-of, opened}
 use Rattle.rules.specs.Settings.{closing-lines, setting, told}
 use Rattle.rules.specs.Promises.{Says, by-run, by-verdict}
@@ -97,20 +97,12 @@ module _ (m : Meaning) (s : Sheet) (W : Sound-setting (setting m s)) (near : Amo
   outcome-shape L σ (stepped τ) h n = tt
 
   does-shape : (j : Job) (c : Call) (a : Answer) (k : Job) → All (Learnable S) (learned-of j) → Job-shape j → Does S j c a k → Job-shape k
-  does-shape j c a k g h (change-taken p q) = tt
-  does-shape j c a k g h (change-no-row p) = h
-  does-shape j c a k g h (change-beyond p q) = h
-  does-shape j c a k g h clear-taken = tt
-  does-shape j c a k g h search-taken = tt
-  does-shape j c a k g h (run-taken p q) = tt
-  does-shape j c a k g h (run-beyond p) = tt
-  does-shape j c a k g h run-negative = tt
-  does-shape j c a k g h (close-taken {L} {σ} o n) = outcome-shape L σ o g n
-  does-shape j c a k g h no-run = h
-  does-shape j c a k g h no-close = h
-  does-shape j c a k g h no-change = tt
-  does-shape j c a k g h no-clear = tt
-  does-shape j c a k g h no-search = tt
+  does-shape j c a k g h (refuses r) = h
+  does-shape j c a k g h (changes p q) = tt
+  does-shape j c a k g h clears = tt
+  does-shape j c a k g h searches = tt
+  does-shape j c a k g h (runs p q) = tt
+  does-shape j c a k g h (closes {L} {σ} o n) = outcome-shape L σ o g n
 
   history-shape : {L : Limits} {es : List Entry} {j : Job} → History S L es j → Job-shape j
   history-shape opened = tt

@@ -10,11 +10,12 @@ use lib.Dec.{leb}
 use Rattle.std.specs.declared.option.Option.{Option}
 use Rattle.std.specs.declared.option.Option.the-variants.{Some, None}
 use Rattle.std.proofs.shelf.Tests.{cond-true, cond-false, cond-both, le-leb, lt-leb, leb-true, leb-false}
+use Rattle.rules.specs.declared.refusals.Refusal.{Refusal}
 use Rattle.rules.specs.Bounds.{greatest-limit, most-steps}
 use Rattle.rules.specs.Sheets.{Limits}
 use Rattle.rules.specs.Grounds.{Setting}
 use Rattle.rules.specs.Search.{Named, Outcome, Runs, State, Step, ended, full, more, next, none, stepped}
-use Rattle.rules.specs.Calls.{Answer, Call, Does, Job, Ran, Reply, Run, Why, begin-search, budget-used, change, change-beyond, change-no-row, change-taken, clear, clear-taken, close, close-taken, closed, has-ended, is-full, no-change, no-clear, no-close, no-run, no-search, one-more, ran, refused, replied, reply, run, run-beyond, run-from, run-negative, run-reply, run-taken, running, search-taken, taken, verdict, why}
+use Rattle.rules.specs.Calls.{Answer, Call, Does, Job, Ran, Refuses, Reply, Run, Why, begin-search, budget-beyond, budget-used, change, changes, clear, clears, close, closed, closes, has-ended, is-full, limit-beyond, negative, no-change, no-clear, no-close, no-row, no-run, no-search, one-more, ran, refused, refuses, replied, reply, run, run-from, run-reply, running, runs, searches, taken, verdict, why}
 use Rattle.rules.specs.Histories.{Entry, History, Played, called, one-call, opened, play, unplayed}
 use Rattle.rules.specs.Theorems.{Call-law, History-law, Refusal-law, Step-law}
 use Rattle.rules.proofs.Agree.{next-named, step-next, full-next, ended-next}
@@ -48,10 +49,10 @@ module _ (S : Setting) (L : Limits) where
     | stepped τ ↦ one-more S (run-from S L b τ)
   ]
 
-  runs : (b : ℕ) (σ : State) → Run S L b σ (run-from S L b σ .reason) (run-from S L b σ .made) (run-from S L b σ .state)
+  run-worked : (b : ℕ) (σ : State) → Run S L b σ (run-from S L b σ .reason) (run-from S L b σ .made) (run-from S L b σ .state)
   unfolding from-outcome
-  runs zero σ = ends-run 0 σ (next S L σ) refl (λ e. refl)
-  runs (suc b) σ = by (next S L σ) refl (λ τ. runs b τ)
+  run-worked zero σ = ends-run 0 σ (next S L σ) refl (λ e. refl)
+  run-worked (suc b) σ = by (next S L σ) refl (λ τ. run-worked b τ)
     where
       by : (o : Outcome) → next S L σ ≡ o → ((τ : State) → Run S L b τ (run-from S L b τ .reason) (run-from S L b τ .made) (run-from S L b τ .state)) → Run S L (suc b) σ (from-outcome b σ o .reason) (from-outcome b σ o .made) (from-outcome b σ o .state)
       by (ended g) e rec = ends-run (suc b) σ (ended g) e (not-used (suc b) has-ended (λ e. let z : _≡_ {A = ℕ} 0 1 = cc in omega arith))
@@ -88,43 +89,47 @@ module _ (S : Setting) where
   reply-does (closed L gs v) (change row limit) =
       cond-both (leb row (S .last-row)) _ _ (Fits (closed L gs v) (change row limit))
       (λ e. cond-both (leb (natAbs limit) greatest-limit) _ _ (Fits (closed L gs v) (change row limit))
-      (λ d. change-taken (leb-true _ _ e) (leb-true _ _ d))
-      (λ d. change-beyond (leb-true _ _ e) (leb-false _ _ d)))
-      (λ e. change-no-row (leb-false _ _ e))
-  reply-does (closed L gs v) clear = clear-taken
-  reply-does (closed L gs v) begin-search = search-taken
-  reply-does (closed L gs v) close = no-close
-  reply-does (closed L gs v) (run budget) = no-run
-  reply-does (running L σ) (change row limit) = no-change
-  reply-does (running L σ) clear = no-clear
-  reply-does (running L σ) begin-search = no-search
-  reply-does (running L σ) close = close-taken (next S L σ) (next-named S L σ)
+      (λ d. changes (leb-true _ _ e) (leb-true _ _ d))
+      (λ d. refuses (limit-beyond (leb-true _ _ e) (leb-false _ _ d))))
+      (λ e. refuses (no-row (leb-false _ _ e)))
+  reply-does (closed L gs v) clear = clears
+  reply-does (closed L gs v) begin-search = searches
+  reply-does (closed L gs v) close = refuses no-close
+  reply-does (closed L gs v) (run budget) = refuses no-run
+  reply-does (running L σ) (change row limit) = refuses no-change
+  reply-does (running L σ) clear = refuses no-clear
+  reply-does (running L σ) begin-search = refuses no-search
+  reply-does (running L σ) close = closes (next S L σ) (next-named S L σ)
   reply-does (running L σ) (run (pos budget)) =
       cond-both (leb (σ .steps + budget) most-steps) _ _ (Fits (running L σ) (run (pos budget)))
-      (λ e. run-taken (leb-true _ _ e) (runs S L budget σ))
-      (λ e. run-beyond (leb-false _ _ e))
-  reply-does (running L σ) (run (negsuc below)) = run-negative
+      (λ e. runs (leb-true _ _ e) (run-worked S L budget σ))
+      (λ e. refuses (budget-beyond (leb-false _ _ e)))
+  reply-does (running L σ) (run (negsuc below)) = refuses negative
 
   -- and nothing else is
+  refuses-reply : (j : Job) (c : Call) (e : Refusal) → Refuses S j c e → replied S (refused e) j ≡ reply S j c
+  unfolding reply
+  refuses-reply j c e no-run = refl
+  refuses-reply j c e no-close = refl
+  refuses-reply j c e no-change = refl
+  refuses-reply j c e no-clear = refl
+  refuses-reply j c e no-search = refl
+  refuses-reply j c e (no-row {row = row} h) = sym (cond-false (leb row (S .last-row)) _ _ (lt-leb _ _ h))
+  refuses-reply j c e (limit-beyond {row = row} {limit = limit} h d) =
+      sym (cond-true (leb row (S .last-row)) _ _ (le-leb _ _ h) ∙ cond-false (leb (natAbs limit) greatest-limit) _ _ (lt-leb _ _ d))
+  refuses-reply j c e negative = refl
+  refuses-reply j c e (budget-beyond {σ = σ} {budget = budget} h) = sym (cond-false (leb (σ .steps + budget) most-steps) _ _ (lt-leb _ _ h))
+
   does-reply : (j : Job) (c : Call) (a : Answer) (k : Job) → Does S j c a k → replied S a k ≡ reply S j c
   unfolding reply
-  does-reply j c a k (change-taken {L} {gs} {v} {row} {limit} h d) =
+  does-reply j c a k (refuses {e = e} r) = refuses-reply j c e r
+  does-reply j c a k (changes {row = row} {limit = limit} h d) =
       sym (cond-true (leb row (S .last-row)) _ _ (le-leb _ _ h) ∙ cond-true (leb (natAbs limit) greatest-limit) _ _ (le-leb _ _ d))
-  does-reply j c a k (change-no-row {L} {gs} {v} {row} {limit} h) = sym (cond-false (leb row (S .last-row)) _ _ (lt-leb _ _ h))
-  does-reply j c a k (change-beyond {L} {gs} {v} {row} {limit} h d) =
-      sym (cond-true (leb row (S .last-row)) _ _ (le-leb _ _ h) ∙ cond-false (leb (natAbs limit) greatest-limit) _ _ (lt-leb _ _ d))
-  does-reply j c a k clear-taken = refl
-  does-reply j c a k search-taken = refl
-  does-reply j c a k (run-taken {L} {σ} {τ} {budget} {made} {reason} h r) =
+  does-reply j c a k clears = refl
+  does-reply j c a k searches = refl
+  does-reply j c a k (runs {L} {σ} {τ} {budget} {made} {reason} h r) =
       ap (run-reply S L) (run-unique S L budget σ reason made τ r) ∙ sym (cond-true (leb (σ .steps + budget) most-steps) _ _ (le-leb _ _ h))
-  does-reply j c a k (run-beyond {L} {σ} {budget} h) = sym (cond-false (leb (σ .steps + budget) most-steps) _ _ (lt-leb _ _ h))
-  does-reply j c a k run-negative = refl
-  does-reply j c a k (close-taken {L} {σ} o n) = ap (λ x. replied S taken (closed L (σ .learned) (Some (verdict σ x)))) (named-next S L σ o n)
-  does-reply j c a k no-run = refl
-  does-reply j c a k no-close = refl
-  does-reply j c a k no-change = refl
-  does-reply j c a k no-clear = refl
-  does-reply j c a k no-search = refl
+  does-reply j c a k (closes {L} {σ} o n) = ap (λ x. replied S taken (closed L (σ .learned) (Some (verdict σ x)))) (named-next S L σ o n)
 
 pub call-law : Call-law
 call-law S j c = (reply-does S j c, λ a k d. (ap (λ r. r .answer) (does-reply S j c a k d), ap (λ r. r .job) (does-reply S j c a k d)))
@@ -157,20 +162,12 @@ If-refused (ran w k) P = Unit {0}
 If-refused (refused e) P = P
 
 unaltered : {S : Setting} {j k : Job} {c : Call} {a : Answer} → Does S j c a k → If-refused a (k ≡ j)
-unaltered (change-taken p q) = tt
-unaltered (change-no-row p) = refl
-unaltered (change-beyond p q) = refl
-unaltered clear-taken = tt
-unaltered search-taken = tt
-unaltered (run-taken p q) = tt
-unaltered (run-beyond p) = refl
-unaltered run-negative = refl
-unaltered (close-taken o n) = tt
-unaltered no-run = refl
-unaltered no-close = refl
-unaltered no-change = refl
-unaltered no-clear = refl
-unaltered no-search = refl
+unaltered (refuses r) = refl
+unaltered (changes p q) = tt
+unaltered clears = tt
+unaltered searches = tt
+unaltered (runs p q) = tt
+unaltered (closes o n) = tt
 
 pub refusal-law : Refusal-law
 refusal-law S j k c e d = unaltered d

@@ -22,6 +22,7 @@ pub data Finding : Type 0 where
   nothing : Ground → Finding
   filled unfinished : Option Part → Finding
 
+-- What a close says: what was found, the steps of the search, and the grounds.
 pub record Verdict : Type 0 where
   pub finding : Finding
   pub steps : ℕ
@@ -33,6 +34,7 @@ pub data Job : Type 0 where
   closed : Limits → List Ground → Option Verdict → Job
   running : Limits → State → Job
 
+-- A limit change on a row to a limit, clear, search, close, and a run with a budget.
 pub data Call : Type 0 where
   change : ℕ → ℤ → Call
   clear begin-search close : Call
@@ -53,11 +55,13 @@ abbrev pub when-ended : Option Part → Ground → Finding
 when-ended None g = nothing g
 when-ended (Some c) g = least c g
 
+-- What it has found where the rules name an outcome.
 abbrev pub finding-at : Option Part → Outcome → Finding
 finding-at best (ended g) = when-ended best g
 finding-at best full = filled best
 finding-at best (stepped τ) = unfinished best
 
+-- The verdict of a close.
 abbrev pub verdict : State → Outcome → Verdict
 verdict σ outcome = record { finding = finding-at (σ .best) outcome; steps = σ .steps; held = length (σ .learned) }
 
@@ -77,28 +81,35 @@ module _ (S : Setting) where
     pub reason-is : reason ≡ why outcome
     pub used : reason ≡ budget-used → made ≡ budget
 
+  -- Every refusal of a call on a job, in the order of the tests: the state, the row, the limit or the budget.
+  pub data Refuses : Job → Call → Refusal → Type 0 where
+    -- a closed job takes a limit change, clear and search only, and a running search takes run and close only
+    no-run : {L : Limits} {gs : List Ground} {v : Option Verdict} {budget : ℤ} → Refuses (closed L gs v) (run budget) NotInThisState
+    no-close : {L : Limits} {gs : List Ground} {v : Option Verdict} → Refuses (closed L gs v) close NotInThisState
+    no-change : {L : Limits} {σ : State} {row : ℕ} {limit : ℤ} → Refuses (running L σ) (change row limit) NotInThisState
+    no-clear : {L : Limits} {σ : State} → Refuses (running L σ) clear NotInThisState
+    no-search : {L : Limits} {σ : State} → Refuses (running L σ) begin-search NotInThisState
+    -- a limit change on a row above the last, and one to a limit too far from 0
+    no-row : {L : Limits} {gs : List Ground} {v : Option Verdict} {row : ℕ} {limit : ℤ} → S .last-row < row → Refuses (closed L gs v) (change row limit) NoSuchRow
+    limit-beyond : {L : Limits} {gs : List Ground} {v : Option Verdict} {row : ℕ} {limit : ℤ} → row ≤ S .last-row → greatest-limit < natAbs limit → Refuses (closed L gs v) (change row limit) LimitBeyond
+    -- a budget below 0, and one that with the steps already made is above the most steps
+    negative : {L : Limits} {σ : State} {below : ℕ} → Refuses (running L σ) (run (negsuc below)) BudgetBeyond
+    budget-beyond : {L : Limits} {σ : State} {budget : ℕ} → most-steps < σ .steps + budget → Refuses (running L σ) (run (pos budget)) BudgetBeyond
+
   -- A call on a job, its answer, and the job as the call leaves it.
   pub data Does : Job → Call → Answer → Job → Type 0 where
-    -- a limit change on a closed job
-    change-taken : {L : Limits} {gs : List Ground} {v : Option Verdict} {row : ℕ} {limit : ℤ} → row ≤ S .last-row → natAbs limit ≤ greatest-limit → Does (closed L gs v) (change row limit) taken (closed (changed L row limit) gs None)
-    change-no-row : {L : Limits} {gs : List Ground} {v : Option Verdict} {row : ℕ} {limit : ℤ} → S .last-row < row → Does (closed L gs v) (change row limit) (refused NoSuchRow) (closed L gs v)
-    change-beyond : {L : Limits} {gs : List Ground} {v : Option Verdict} {row : ℕ} {limit : ℤ} → row ≤ S .last-row → greatest-limit < natAbs limit → Does (closed L gs v) (change row limit) (refused LimitBeyond) (closed L gs v)
-    -- the learned grounds dropped
-    clear-taken : {L : Limits} {gs : List Ground} {v : Option Verdict} → Does (closed L gs v) clear taken (closed L [] None)
-    -- a search begun, with the learned grounds kept
-    search-taken : {L : Limits} {gs : List Ground} {v : Option Verdict} → Does (closed L gs v) begin-search taken (running L (start S L gs))
-    -- a run with a budget
-    run-taken : {L : Limits} {σ τ : State} {budget made : ℕ} {reason : Why} → σ .steps + budget ≤ most-steps → Run L budget σ reason made τ → Does (running L σ) (run (pos budget)) (ran reason made) (running L τ)
-    run-beyond : {L : Limits} {σ : State} {budget : ℕ} → most-steps < σ .steps + budget → Does (running L σ) (run (pos budget)) (refused BudgetBeyond) (running L σ)
-    run-negative : {L : Limits} {σ : State} {below : ℕ} → Does (running L σ) (run (negsuc below)) (refused BudgetBeyond) (running L σ)
-    -- a search closed; its learned grounds are kept
-    close-taken : {L : Limits} {σ : State} (outcome : Outcome) → Named S L σ outcome → Does (running L σ) close taken (closed L (σ .learned) (Some (verdict σ outcome)))
-    -- calls that the state does not allow
-    no-run : {L : Limits} {gs : List Ground} {v : Option Verdict} {budget : ℤ} → Does (closed L gs v) (run budget) (refused NotInThisState) (closed L gs v)
-    no-close : {L : Limits} {gs : List Ground} {v : Option Verdict} → Does (closed L gs v) close (refused NotInThisState) (closed L gs v)
-    no-change : {L : Limits} {σ : State} {row : ℕ} {limit : ℤ} → Does (running L σ) (change row limit) (refused NotInThisState) (running L σ)
-    no-clear : {L : Limits} {σ : State} → Does (running L σ) clear (refused NotInThisState) (running L σ)
-    no-search : {L : Limits} {σ : State} → Does (running L σ) begin-search (refused NotInThisState) (running L σ)
+    -- a refusal alters nothing
+    refuses : {j : Job} {c : Call} {e : Refusal} → Refuses j c e → Does j c (refused e) j
+    -- a limit change replaces the limit of its row, and leaves the job unsearched
+    changes : {L : Limits} {gs : List Ground} {v : Option Verdict} {row : ℕ} {limit : ℤ} → row ≤ S .last-row → natAbs limit ≤ greatest-limit → Does (closed L gs v) (change row limit) taken (closed (changed L row limit) gs None)
+    -- clear drops all learned grounds, and leaves the job unsearched
+    clears : {L : Limits} {gs : List Ground} {v : Option Verdict} → Does (closed L gs v) clear taken (closed L [] None)
+    -- a search begins at its start, with the learned grounds kept
+    searches : {L : Limits} {gs : List Ground} {v : Option Verdict} → Does (closed L gs v) begin-search taken (running L (start S L gs))
+    -- a run makes steps within its budget
+    runs : {L : Limits} {σ τ : State} {budget made : ℕ} {reason : Why} → σ .steps + budget ≤ most-steps → Run L budget σ reason made τ → Does (running L σ) (run (pos budget)) (ran reason made) (running L τ)
+    -- close gives the verdict on what the search has come to, and keeps its learned grounds
+    closes : {L : Limits} {σ : State} (outcome : Outcome) → Named S L σ outcome → Does (running L σ) close taken (closed L (σ .learned) (Some (verdict σ outcome)))
 
   -- What a run gives, worked out.
   pub record Ran : Type 0 where
@@ -109,6 +120,7 @@ module _ (S : Setting) where
   abbrev pub one-more : Ran → Ran
   one-more r = record { reason = r .reason; made = suc (r .made); state = r .state }
 
+  -- A run of at most so many steps, worked out step by step.
   abbrev pub run-from : Limits → ℕ → State → Ran
   run-from L zero σ = record { reason = why (next S L σ); made = 0; state = σ }
   run-from L (suc budget) σ =
@@ -118,6 +130,7 @@ module _ (S : Setting) where
         | stepped τ ↦ one-more (run-from L budget τ)
       ]
 
+  -- What a call answers, and the job afterwards.
   pub record Reply : Type 0 where
     pub answer : Answer
     pub job : Job

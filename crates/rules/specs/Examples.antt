@@ -15,7 +15,7 @@ use Rattle.rules.specs.declared.sheets.Row.{Row}
 use Rattle.rules.specs.declared.sheets.Sheet.{Sheet}
 use Rattle.rules.specs.Joinings.{Joining, greatest-at-most}
 use Rattle.rules.specs.Catalogues.{Meaning, rung}
-use Rattle.rules.specs.Sheets.{Limits, no-row}
+use Rattle.rules.specs.Sheets.{Limits, blank-row}
 use Rattle.rules.specs.Choices.{Told, says-least, says-none}
 use Rattle.rules.specs.Grounds.{Setting, line-stands, kept}
 use Rattle.rules.specs.Calls.{closed, running}

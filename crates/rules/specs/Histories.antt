@@ -80,34 +80,39 @@ abbrev pub steps-run : List Entry → ℕ
 steps-run [] = 0
 steps-run (e ∷ es) = count (e .answer) (e .call) (steps-run es)
 
--- The learned grounds with which the last search began, after a call more: those that a closed job holds when a search is begun on it.
-abbrev pub grounds-after : Job → Call → List Ground → List Ground
-grounds-after (running L σ) c gs = gs
-grounds-after (closed L held v) begin-search gs = held
-grounds-after (closed L held v) (change row limit) gs = gs
-grounds-after (closed L held v) clear gs = gs
-grounds-after (closed L held v) close gs = gs
-grounds-after (closed L held v) (run b) gs = gs
+-- The learned grounds with which the last search began, after a call more: a search that is taken begins with those that the job holds.
+abbrev pub grounds-after : Answer → Job → Call → List Ground → List Ground
+grounds-after (ran w m) j c gs = gs
+grounds-after (refused e) j c gs = gs
+grounds-after taken j begin-search gs = learned-of j
+grounds-after taken j (change row limit) gs = gs
+grounds-after taken j clear gs = gs
+grounds-after taken j close gs = gs
+grounds-after taken j (run b) gs = gs
 
 module _ (S : Setting) where
   -- The learned grounds with which the last search of a history began.
   abbrev pub began-with : {L : Limits} {es : List Entry} {j : Job} → History S L es j → List Ground
   began-with opened = []
-  began-with (called {j = j} {c = c} h d) = grounds-after j c (began-with h)
+  began-with (called {j = j} {c = c} {a = a} h d) = grounds-after a j c (began-with h)
 
-  -- A run makes as many steps as its budget, or fewer and the search has ended or is full.
-  abbrev pub Budget-kept : Call → Answer → Job → Type 0
-  Budget-kept (run (pos b)) (ran w k) (running L σ) = (k ≡ b) ⊎ ((k < b) × (((g : Ground) × Ended S L σ g) ⊎ Full S L σ))
-  Budget-kept (run (pos b)) (ran w k) (closed L gs v) = ⊥
-  Budget-kept (run (negsuc b)) (ran w k) j = ⊥
-  Budget-kept (run b) taken j = ⊥
-  Budget-kept (run b) (refused e) j = Unit {0}
-  Budget-kept (change row limit) a j = Unit {0}
-  Budget-kept clear a j = Unit {0}
-  Budget-kept begin-search a j = Unit {0}
-  Budget-kept close a j = Unit {0}
+  -- A run with this budget, which left the job so, made as many steps as its budget, or fewer and the search has ended or is full.
+  abbrev pub Run-kept : ℕ → Call → Job → Type 0
+  Run-kept k (run (pos b)) (running L σ) = (k ≡ b) ⊎ ((k < b) × (((g : Ground) × Ended S L σ g) ⊎ Full S L σ))
+  Run-kept k (run (pos b)) (closed L gs v) = ⊥
+  Run-kept k (run (negsuc b)) j = ⊥
+  Run-kept k (change row limit) j = ⊥
+  Run-kept k clear j = ⊥
+  Run-kept k begin-search j = ⊥
+  Run-kept k close j = ⊥
 
-  -- So did the last call, if it was a run.
+  -- So it is with a call that answered as a run.
+  abbrev pub Budget-kept : Answer → Call → Job → Type 0
+  Budget-kept (ran w k) c j = Run-kept k c j
+  Budget-kept taken c j = Unit {0}
+  Budget-kept (refused e) c j = Unit {0}
+
+  -- So it is with the last call.
   abbrev pub Last-budget-kept : List Entry → Job → Type 0
   Last-budget-kept [] j = Unit {0}
-  Last-budget-kept (e ∷ es) j = Budget-kept (e .call) (e .answer) j
+  Last-budget-kept (e ∷ es) j = Budget-kept (e .answer) (e .call) j

@@ -22,18 +22,18 @@ abbrev pub last-row : Sheet → ℕ
 last-row s = s .«last_row»
 
 -- What stands for a row past the table.
-abbrev pub no-row : Row
-no-row = record { kind = 0; limit = pos 0 }
+abbrev pub blank-row : Row
+blank-row = record { kind = 0; limit = pos 0 }
 
 -- The number of a row's kind; the price is added up, and the greater is worse.
 abbrev pub kind-of : Sheet → ℕ → ℕ
 kind-of s zero = kind-number SumAtMost
-kind-of s (suc r) = getD (s .rows) r no-row .kind
+kind-of s (suc r) = getD (s .rows) r blank-row .kind
 
 -- The limit that the sheet sets a row.
 abbrev pub limit-of : Sheet → Limits
 limit-of s zero = s .cap
-limit-of s (suc r) = getD (s .rows) r no-row .limit
+limit-of s (suc r) = getD (s .rows) r blank-row .limit
 
 -- The joining of the kind found for a number; where there is none, which no opened job has, that of the price.
 abbrev pub joining-found : Option Kind → Joining
