@@ -1,6 +1,6 @@
 -- Two catalogues beside one another. Assumes nothing.
 use mathlib.Core.Bool.{cond}
-use Prim.Native.Nat.{ℕ, _+_, _-_, min}
+use Prim.Native.Nat.{_+_, _-_, min}
 use lib.Dec.{leb}
 use Rattle.rules.specs.Bounds.{most-places}
 use Rattle.rules.specs.Catalogues.{Meaning}

@@ -1,29 +1,28 @@
 -- What is found when every choice is tried is the first of the cheapest. Assumes nothing.
-use mathlib.Core.Path.{_≡_, refl, sym, ap, ap₂, _∙_, subst}
-use mathlib.Core.Bool.{Bool, true, false, not, cond, _&&_}
+use mathlib.Core.Path.{_≡_, refl, sym, ap, _∙_, subst}
+use mathlib.Core.Bool.{true, false, not}
 use mathlib.Core.List.{List}
 use mathlib.Core.Logic.{_⊎_, inl, inr}
-use Prim.Native.Nat.{ℕ, zero, suc, _+_, _-_, _≤_, _<_}
+use Prim.Native.Nat.{ℕ, zero, suc, _-_, _≤_, _<_}
 use native.Mathlib.Omega.{arith}
 use lib.IntN.{ℤ}
-use lib.ListN.{length, getD, set, take, replicate, length-set}
+use lib.ListN.{length, getD, set, length-set}
 use lib.Signed.{ltZ, _<ℤ_, _≤ℤ_}
 use Rattle.std.specs.declared.option.Option.{Option}
 use Rattle.std.specs.declared.option.Option.the-variants.{Some, None}
 use Rattle.std.proofs.shelf.Lists.{getD-set-same, getD-set-other}
 use Rattle.std.proofs.shelf.Signed.{ints, by-ltZ}
-use Rattle.std.proofs.shelf.Tests.{cond-true, cond-false, cond-both, cases-lt, cases-eq, both-ways}
+use Rattle.std.proofs.shelf.Tests.{cond-true, cond-false, cond-both, cases-lt}
 use Rattle.rules.specs.declared.sheets.Sheet.{Sheet}
 use Rattle.rules.specs.Bounds.{most-places}
-use Rattle.rules.specs.Catalogues.{Meaning, Sound-meaning}
+use Rattle.rules.specs.Catalogues.{Meaning}
 use Rattle.rules.specs.Sheets.{last-row, joining-of, limit-of}
 use Rattle.rules.specs.Choices.{version, total, price}
-use Rattle.rules.specs.Settings.{versions-in}
-use Rattle.rules.proofs.Bools.{split, clash}
+use Rattle.rules.proofs.Bools.{clash}
 use Rattle.rules.proofs.Inside.{joined-same}
 use Rattle.exhaustive.specs.declared.found.Found.{Found}
 use Rattle.exhaustive.specs.Answers.{Before}
-use Rattle.exhaustive.specs.Trials.{cheaper, cheapest-to, all-first, row-kept, all-kept, judged, tried}
+use Rattle.exhaustive.specs.Trials.{cheaper, cheapest-to, row-kept, all-kept, judged, tried}
 use Rattle.exhaustive.proofs.KeptRows.{all-same}
 
 module _ (m : Meaning) (s : Sheet) where

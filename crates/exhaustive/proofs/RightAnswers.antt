@@ -1,13 +1,12 @@
 -- What is answered is right, by place. Assumes nothing.
 use mathlib.Core.Path.{_≡_, refl, sym, ap, _∙_, subst}
-use mathlib.Core.Bool.{Bool, true, false, not, cond, _&&_}
+use mathlib.Core.Bool.{Bool, true, false, not}
 use mathlib.Core.List.{List}
 use mathlib.Core.Logic.{_⊎_, inl, inr}
-use Prim.Native.Nat.{ℕ, zero, suc, _+_, _-_, _≤_, _<_}
+use Prim.Native.Nat.{ℕ, zero, suc, _-_, _≤_, _<_}
 use native.Mathlib.Omega.{arith}
 use lib.IntN.{ℤ}
-use lib.Dec.{eqb}
-use lib.ListN.{length, getD, take, replicate, length-replicate, length-take}
+use lib.ListN.{length, getD, replicate, length-replicate, length-take}
 use lib.Signed.{_<ℤ_, _≤ℤ_}
 use Rattle.std.specs.Options.{isSome}
 use Rattle.std.specs.declared.option.Option.{Option}
@@ -24,14 +23,13 @@ use Rattle.rules.specs.Bounds.{most-places}
 use Rattle.rules.specs.Joinings.{kind-numbered}
 use Rattle.rules.specs.Catalogues.{Meaning, Sound-meaning}
 use Rattle.rules.specs.Sheets.{last-row, kind-of, limit-of, joining-of}
-use Rattle.rules.specs.Choices.{version, Choice, Keeps, total, price, No-choice}
-use Rattle.rules.specs.Settings.{versions-in}
-use Rattle.rules.proofs.Bools.{split, clash}
+use Rattle.rules.specs.Choices.{version, Choice, Keeps, total, price}
+use Rattle.rules.proofs.Bools.{clash}
 use Rattle.rules.proofs.Inside.{versions-inside, amount-inside, joined-same}
 use Rattle.rules.proofs.KindNumbers.{kind-there, there-kind}
 use Rattle.exhaustive.specs.declared.found.Found.{Found}
 use Rattle.exhaustive.specs.Answers.{Same-counts, Known-kinds, Before, named, First-cheapest, Right-answer}
-use Rattle.exhaustive.specs.Trials.{guarded, all-first, row-kept, all-kept, tested, counts-same, kind-known, kinds-known, tried, all-tried, answer}
+use Rattle.exhaustive.specs.Trials.{guarded, row-kept, all-kept, tested, counts-same, kind-known, kinds-known, tried, all-tried, answer}
 use Rattle.exhaustive.proofs.KeptRows.{all-at, all-from}
 use Rattle.exhaustive.proofs.FirstCheapest.{Same-to, Going-on, No-later, First-of, Found-of, kept-same, total-same, tried-found}
 

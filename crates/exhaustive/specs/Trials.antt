@@ -2,7 +2,6 @@
 use mathlib.Core.Bool.{Bool, true, not, cond, _&&_}
 use mathlib.Core.List.{List}
 use Prim.Native.Nat.{ℕ, zero, suc, _-_}
-use lib.IntN.{ℤ}
 use lib.Dec.{eqb}
 use lib.Signed.{ltZ}
 use lib.ListN.{replicate, set}

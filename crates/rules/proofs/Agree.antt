@@ -1,20 +1,19 @@
 -- What the rules name at a state is what `next` works out. Assumes nothing.
 use mathlib.Core.Path.{_≡_, refl, sym, ap, _∙_, subst}
-use mathlib.Core.Bool.{Bool, true, false, cond, _&&_, _||_}
-use mathlib.Core.List.{List, [], _∷_, _++_}
-use mathlib.Core.Logic.{_⊎_, inl, inr}
-use Prim.Native.Nat.{ℕ, zero, suc, pred, _+_, _-_, _*_, _≤_, _<_}
+use mathlib.Core.Bool.{true, false, cond}
+use mathlib.Core.List.{[], _∷_}
+use mathlib.Core.Logic.{inl, inr}
+use Prim.Native.Nat.{ℕ, zero, suc, _-_, _≤_, _<_}
 use native.Mathlib.Omega.{arith}
 use lib.Dec.{eqb}
-use lib.ListN.{length}
 use Rattle.std.specs.Options.{isSome}
 use Rattle.std.specs.declared.option.Option.{Option}
 use Rattle.std.specs.declared.option.Option.the-variants.{Some, None}
 use Rattle.std.proofs.shelf.Tests.{cond-true, cond-false, cond-both, cases-lt, cases-eq, eq-eqb, ne-eqb, eqb-true, eqb-false}
 use Rattle.rules.specs.Sheets.{Limits}
 use Rattle.rules.specs.Grounds.{Ground, Part, Setting, open-places}
-use Rattle.rules.specs.Search.{Ended, Full, Named, State, Step, after-ground, at-part, by-ground, ended, first-ground, found, full, give-way, go-on, ground-at, lowest-free, move, next, no-other, no-version, room, set, stay, stepped, stopped, try-place, with-best, with-ground}
-use Rattle.rules.proofs.Bools.{split, clash}
+use Rattle.rules.specs.Search.{Ended, Full, Learns, Named, State, Step, after-ground, at-part, by-ground, ended, first-ground, found, full, go-on, ground-at, learns, lowest-free, move, next, no-other, no-version, room, set, stepped, stopped, try-place, with-best, with-ground}
+use Rattle.rules.proofs.Bools.{clash}
 use Rattle.rules.proofs.Firsts.{some-of, none-of}
 
 module _ (S : Setting) (L : Limits) where
@@ -84,11 +83,15 @@ module _ (S : Setting) (L : Limits) where
   back-in σ v t h x other =
       elim (cases-eq x v) [ inl e ↦ subst (λ y. stopped S L σ (y ∷ t) ≡ true) (sym e) h | inr d ↦ other d ]
 
-  learns : (σ : State) (t : Part) → room (σ .learned) (ground-at S L σ t) ≡ true → try-place S L σ t None ≡ stepped (with-ground σ t (ground-at S L σ t))
-  learns σ t h = cond-true (room (σ .learned) (ground-at S L σ t)) _ _ h
+  next-learns : (σ : State) (t : Part) → Learns S L σ t → next S L σ ≡ try-place S L σ t None
+  next-learns σ t (no-other v _ e h all) = next-set σ v t e h ∙ none-is σ t (λ x p q. back-in σ v t h x (all x p q))
+  next-learns σ t (no-version p f all) = next-open σ p f ∙ none-is σ (σ .part) (λ x a b. all x a b (λ z. z))
 
-  lacks : (σ : State) (t : Part) → room (σ .learned) (ground-at S L σ t) ≡ false → try-place S L σ t None ≡ full
-  lacks σ t h = cond-false (room (σ .learned) (ground-at S L σ t)) _ _ h
+  has-space : (σ : State) (t : Part) → room (σ .learned) (ground-at S L σ t) ≡ true → try-place S L σ t None ≡ stepped (with-ground σ t (ground-at S L σ t))
+  has-space σ t h = cond-true (room (σ .learned) (ground-at S L σ t)) _ _ h
+
+  lacks-space : (σ : State) (t : Part) → room (σ .learned) (ground-at S L σ t) ≡ false → try-place S L σ t None ≡ full
+  lacks-space σ t h = cond-false (room (σ .learned) (ground-at S L σ t)) _ _ h
 
   -- a step of the rules is the one worked out
   pub step-next : (σ τ : State) → Step S L σ τ → next S L σ ≡ stepped τ
@@ -96,21 +99,15 @@ module _ (S : Setting) (L : Limits) where
       next-set σ v t e h
       ∙ free-is σ t w (low .counted) (low .there) (low .free) (λ x p q. back-in σ v t h x (low .lowest x p q))
       ∙ ap stepped (sym d)
-  step-next σ τ (give-way v t e h all space d) =
-      next-set σ v t e h ∙ none-is σ t (λ x p q. back-in σ v t h x (all x p q)) ∙ learns σ t space ∙ ap stepped (sym d)
   step-next σ τ (found p f d) = next-found σ p f ∙ ap stepped (sym d)
   step-next σ τ (set w p f low d) =
       next-open σ p f
       ∙ free-is σ (σ .part) w (low .counted) (low .there) (low .free) (λ x a b. low .lowest x a b (λ z. z))
       ∙ ap stepped (sym d)
-  step-next σ τ (stay p f all space d) =
-      next-open σ p f ∙ none-is σ (σ .part) (λ x a b. all x a b (λ z. z)) ∙ learns σ (σ .part) space ∙ ap stepped (sym d)
+  step-next σ τ (learns t l space d) = next-learns σ t l ∙ has-space σ t space ∙ ap stepped (sym d)
 
   pub full-next : (σ : State) → Full S L σ → next S L σ ≡ full
-  full-next σ (no-other v t e h all lack) =
-      next-set σ v t e h ∙ none-is σ t (λ x p q. back-in σ v t h x (all x p q)) ∙ lacks σ t lack
-  full-next σ (no-version p f all lack) =
-      next-open σ p f ∙ none-is σ (σ .part) (λ x a b. all x a b (λ z. z)) ∙ lacks σ (σ .part) lack
+  full-next σ (t, l, lack) = next-learns σ t l ∙ lacks-space σ t lack
 
   pub ended-next : (σ : State) (g : Ground) → Ended S L σ g → next S L σ ≡ ended g
   unfolding next
@@ -118,6 +115,12 @@ module _ (S : Setting) (L : Limits) where
       ap (λ s. by-ground S L σ (first-ground S L σ s)) (h .0) ∙ ap (by-ground S L σ) (h .1) ∙ ap (after-ground S L σ g) (h .0)
 
   -- and the other way round: what is worked out is what the rules name
+  named-learns : (σ : State) (t : Part) → Learns S L σ t → Named S L σ (try-place S L σ t None)
+  named-learns σ t l =
+      cond-both (room (σ .learned) (ground-at S L σ t)) (stepped (with-ground σ t (ground-at S L σ t))) full (Named S L σ)
+      (λ space. learns t l space refl)
+      (λ lack. (t, l, lack))
+
   named-set : (σ : State) (v : ℕ) (t : Part) → σ .part ≡ v ∷ t → stopped S L σ (v ∷ t) ≡ true → (o : Option ℕ) → Lowest σ t (S .versions (open-places S t)) o → Named S L σ (try-place S L σ t o)
   named-set σ v t e h (Some w) low =
       move v w t e h
@@ -130,17 +133,13 @@ module _ (S : Setting) (L : Limits) where
       })
       refl
   named-set σ v t e h None all =
-      cond-both (room (σ .learned) (ground-at S L σ t)) (stepped (with-ground σ t (ground-at S L σ t))) full (Named S L σ)
-      (λ space. give-way v t e h (λ x p q _. all x p q) space refl)
-      (λ lack. no-other v t e h (λ x p q _. all x p q) lack)
+      named-learns σ t (no-other v t e h (λ x p q _. all x p q))
 
   named-open : (σ : State) → 0 < open-places S (σ .part) → stopped S L σ (σ .part) ≡ false → (o : Option ℕ) → Lowest σ (σ .part) (S .versions (open-places S (σ .part))) o → Named S L σ (try-place S L σ (σ .part) o)
   named-open σ p f (Some w) low =
       set w p f (record { counted = low .0; there = low .1; other = λ d. d; free = low .2; lowest = λ x a b _. low .3 x a b }) refl
   named-open σ p f None all =
-      cond-both (room (σ .learned) (ground-at S L σ (σ .part))) (stepped (with-ground σ (σ .part) (ground-at S L σ (σ .part)))) full (Named S L σ)
-      (λ space. stay p f (λ x a b _. all x a b) space refl)
-      (λ lack. no-version p f (λ x a b _. all x a b) lack)
+      named-learns σ (σ .part) (no-version p f (λ x a b _. all x a b))
 
   named-ground : (σ : State) (g : Ground) (s : Part) → σ .part ≡ s → first-ground S L σ s ≡ Some g → Named S L σ (after-ground S L σ g s)
   named-ground σ g [] e h = (e, h)

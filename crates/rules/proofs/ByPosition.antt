@@ -1,7 +1,6 @@
 -- What the promises say by place, said by position: choices, the cheapest of them, and what closes a list of limits. Assumes nothing.
 use mathlib.Core.Path.{_≡_}
 use mathlib.Core.Bool.{true, false}
-use mathlib.Core.List.{List}
 use Prim.Native.Nat.{ℕ, _+_, _*_, _≤_}
 use lib.IntN.{pos, natAbs, _-ℤ_}
 use lib.ListN.{length}

@@ -1,10 +1,10 @@
 -- What every call keeps, along every history, by position. Assumes nothing.
-use mathlib.Core.Path.{_≡_, refl, sym, ap, _∙_, subst}
-use mathlib.Core.List.{List, [], _∷_}
+use mathlib.Core.Path.{_≡_, refl, ap, _∙_, subst}
+use mathlib.Core.List.{List, _∷_}
 use mathlib.Core.Logic.{_⊎_, inl, inr}
-use Prim.Native.Nat.{ℕ, zero, suc, _+_, _*_, _≤_, _<_}
+use Prim.Native.Nat.{ℕ, suc, _+_, _*_, _<_}
 use native.Mathlib.Omega.{arith}
-use lib.IntN.{ℤ, pos, negsuc}
+use lib.IntN.{ℤ, pos}
 use Rattle.std.specs.declared.option.Option.{Option}
 use Rattle.std.specs.declared.option.Option.the-variants.{Some, None}
 use Rattle.std.specs.shelf.Lists.{All}
@@ -13,7 +13,7 @@ use Rattle.rules.specs.declared.refusals.Refusal.{Refusal}
 use Rattle.rules.specs.Sheets.{Limits}
 use Rattle.rules.specs.Choices.{changed}
 use Rattle.rules.specs.Grounds.{Ground, Learnable, Part, Setting, Sound-setting}
-use Rattle.rules.specs.Search.{Ended, Full, Named, Outcome, Runs, State, Step, ended, found, full, give-way, more, move, none, set, start, stay, stepped}
+use Rattle.rules.specs.Search.{Ended, Full, Named, Outcome, Runs, State, Step, ended, found, full, learns, more, move, none, set, start, stepped}
 use Rattle.rules.specs.Calls.{Answer, Call, Does, Finding, Job, Run, Verdict, Why, budget-used, changes, clears, closed, closes, filled, finding-at, least, nothing, ran, refused, refuses, run, running, runs, searches, unfinished, when-ended, why}
 use Rattle.rules.specs.Histories.{Budget-kept, Entry, History, Last-budget-kept, began-with, called, grounds-after, learned-of, limits-after, limits-of, opened, steps-run}
 use Rattle.rules.proofs.ByPosition.{Complete, Part-closes, Part-keeps, Part-least}
@@ -30,10 +30,9 @@ module _ (S : Setting) where
   -- a step counts as one
   step-counts : {L : Limits} (σ τ : State) → Step S L σ τ → τ .steps ≡ suc (σ .steps)
   step-counts σ τ (move v w t e h low d) = ap (λ x. x .steps) d
-  step-counts σ τ (give-way v t e h all space d) = ap (λ x. x .steps) d
   step-counts σ τ (found p f d) = ap (λ x. x .steps) d
   step-counts σ τ (set w p f low d) = ap (λ x. x .steps) d
-  step-counts σ τ (stay p f all space d) = ap (λ x. x .steps) d
+  step-counts σ τ (learns t l space d) = ap (λ x. x .steps) d
 
   runs-count : {L : Limits} {k : ℕ} {σ τ : State} → Runs S L k σ τ → τ .steps ≡ k + σ .steps
   runs-count none = omega arith

@@ -1,9 +1,9 @@
 -- The lines of closing grounds. Assumes nothing.
-use mathlib.Core.Path.{_≡_, refl, sym, ap, _∙_, subst}
-use mathlib.Core.Bool.{Bool, true, false, cond}
-use mathlib.Core.List.{List, [], _∷_, _++_, map}
-use mathlib.Core.Logic.{_⊎_, inl, inr}
-use Prim.Native.Nat.{ℕ, zero, suc, _+_, _-_, _*_, _^_, _≤_, _<_}
+use mathlib.Core.Path.{_≡_, subst}
+use mathlib.Core.Bool.{true}
+use mathlib.Core.List.{List, [], _∷_}
+use mathlib.Core.Logic.{inl, inr}
+use Prim.Native.Nat.{_+_, _-_, _*_, _≤_, _<_}
 use native.Mathlib.Omega.{arith}
 use lib.IntN.{natAbs}
 use lib.Dec.{leb, ltb, eqb}
@@ -11,7 +11,6 @@ use lib.ListN.{length, length-map}
 use Rattle.std.specs.declared.option.Option.{Option}
 use Rattle.std.specs.declared.option.Option.the-variants.{Some, None}
 use Rattle.std.specs.shelf.Lists.{All}
-use Rattle.std.proofs.shelf.Elements.{all-append}
 use Rattle.std.proofs.shelf.Tests.{and-parts, or-cases, leb-true, ltb-true}
 use Rattle.rules.specs.declared.lines.Line.{Line}
 use Rattle.rules.specs.declared.sheets.Sheet.{Sheet}
@@ -21,7 +20,7 @@ use Rattle.rules.specs.Sheets.{Limits, last-row}
 use Rattle.rules.specs.Choices.{In-shape, Rising, Told, Well-told}
 use Rattle.rules.specs.Grounds.{Ground, Learnable, Ordered, Part, Setting, Sound-setting, Well-formed, before, ledger, line-stands, open-places, stands}
 use Rattle.rules.specs.Search.{Ended, Named, Outcome, State, ended, full, in-force, stepped}
-use Rattle.rules.specs.Calls.{Answer, Call, Does, Job, Verdict, changes, clears, closed, closes, finding-at, nothing, refuses, running, runs, searches, when-ended}
+use Rattle.rules.specs.Calls.{Answer, Call, Does, Job, Verdict, changes, clears, closed, closes, finding-at, refuses, running, runs, searches, when-ended}
 use Rattle.rules.specs.Histories.{Entry, History, began-with, called, learned-of, opened}
 use Rattle.rules.specs.Settings.{closing-lines, setting, told}
 use Rattle.rules.specs.Promises.{Says, by-run, by-verdict}

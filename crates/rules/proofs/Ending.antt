@@ -1,27 +1,25 @@
 -- What an ended search says is right. Assumes nothing.
 use mathlib.Core.Path.{_≡_, refl, sym, ap, _∙_, subst}
-use mathlib.Core.Bool.{Bool, true, false, cond, _&&_, _||_}
-use mathlib.Core.List.{List, [], _∷_, _++_}
-use mathlib.Core.Logic.{_⊎_, inl, inr}
-use Prim.Native.Nat.{ℕ, zero, suc, pred, _+_, _-_, _*_, _≤_, _<_}
+use mathlib.Core.Bool.{true, false}
+use mathlib.Core.List.{[], _∷_}
+use mathlib.Core.Logic.{inl, inr}
+use Prim.Native.Nat.{ℕ, _-_, _≤_, _<_}
 use native.Mathlib.Omega.{arith}
 use lib.IntN.{ℤ, pos, _-ℤ_}
-use lib.Signed.{ltZ, _≤ℤ_, _<ℤ_}
+use lib.Signed.{ltZ, _<ℤ_}
 use lib.Dec.{leb, eqb}
-use lib.ListN.{length}
 use Rattle.std.specs.declared.option.Option.{Option}
 use Rattle.std.specs.declared.option.Option.the-variants.{Some, None}
 use Rattle.std.specs.shelf.Lists.{All}
 use Rattle.std.proofs.shelf.Signed.{ints, by-ltZ}
 use Rattle.std.proofs.shelf.Elements.{all-weaker}
-use Rattle.std.proofs.shelf.Tests.{cond-true, cond-false, and-parts, and-from, le-leb, leb-true, cases-eq, ne-eqb}
+use Rattle.std.proofs.shelf.Tests.{cond-false, and-parts, and-from, le-leb, leb-true, cases-eq, ne-eqb}
 use Rattle.rules.specs.declared.lines.Line.{Line}
 use Rattle.rules.specs.Sheets.{Limits}
 use Rattle.rules.specs.Choices.{capped}
 use Rattle.rules.specs.Grounds.{Ground, Learnable, Part, Setting, Sound-setting, ledger, open-places, part-price, part-total, stands}
 use Rattle.rules.specs.Search.{Ended, State, in-force}
 use Rattle.rules.proofs.ByPosition.{Complete, Lines-stand-at, Part-closes, Part-keeps, Part-least, one-under}
-use Rattle.rules.proofs.Bools.{split, clash}
 use Rattle.rules.proofs.Joined.{joined-none}
 use Rattle.rules.proofs.Firsts.{Holds, first-holds}
 use Rattle.rules.proofs.Learning.{ledger-learnable, learnable-sound}

@@ -1,26 +1,25 @@
 -- What every step of a search keeps. Assumes nothing.
 use mathlib.Core.Path.{_≡_, refl, sym, ap, _∙_, subst}
-use mathlib.Core.Bool.{Bool, true, false, cond, _&&_, _||_}
-use mathlib.Core.List.{List, [], _∷_, _++_, map, append-assoc}
-use mathlib.Core.Logic.{_⊎_, inl, inr}
-use Prim.Native.Nat.{ℕ, zero, suc, pred, _+_, _-_, _*_, _≤_, _<_}
+use mathlib.Core.Bool.{Bool, true, false}
+use mathlib.Core.List.{List, [], _∷_, _++_, append-assoc}
+use mathlib.Core.Logic.{inl, inr}
+use Prim.Native.Nat.{ℕ, zero, suc, _+_, _-_, _≤_, _<_}
 use native.Mathlib.Omega.{arith}
-use lib.IntN.{ℤ, pos, negsuc, _-ℤ_}
+use lib.IntN.{ℤ, pos, _-ℤ_}
 use lib.Signed.{ltZ}
 use lib.Dec.{leb, ltb, eqb}
 use lib.ListN.{length, replicate, length-replicate, length-append}
-use Rattle.std.specs.Options.{isSome}
 use Rattle.std.specs.declared.option.Option.{Option}
 use Rattle.std.specs.declared.option.Option.the-variants.{Some, None}
 use Rattle.std.specs.shelf.Lists.{All}
 use Rattle.std.proofs.shelf.Elements.{all-append}
 use Rattle.std.proofs.shelf.Signed.{ints}
-use Rattle.std.proofs.shelf.Tests.{cond-true, cond-false, cond-both, and-parts, and-from, eqb-true, eqb-false, le-leb, leb-true, cases-lt, cases-eq, ne-eqb, ltb-true}
+use Rattle.std.proofs.shelf.Tests.{cond-false, and-parts, and-from, le-leb, leb-true, cases-lt, cases-eq, ne-eqb, ltb-true}
 use Rattle.rules.specs.Bounds.{most-grounds, most-lines}
 use Rattle.rules.specs.Sheets.{Limits}
 use Rattle.rules.specs.Choices.{capped}
 use Rattle.rules.specs.Grounds.{Ground, Learnable, Part, Proper, Setting, Sound-setting, blocked, ledger, of-row, open-places, part-price, part-total, stands, starting}
-use Rattle.rules.specs.Search.{Runs, State, Step, found, give-way, ground-at, in-force, line-count, more, move, none, room, set, start, stay, stopped, with-best, with-ground}
+use Rattle.rules.specs.Search.{Learns, Runs, State, Step, found, ground-at, in-force, learns, line-count, more, move, no-other, no-version, none, room, set, start, stopped, with-best, with-ground}
 use Rattle.rules.proofs.ByPosition.{Complete, Part-keeps}
 use Rattle.rules.proofs.Bools.{split, clash}
 use Rattle.rules.proofs.Firsts.{blocked-left, blocked-right, blocked-here, blocked-tighter, Tighter}
@@ -194,6 +193,21 @@ module _ (S : Setting) where
     every-version σ v t h x other =
         elim (cases-eq x v) [ inl e ↦ subst (λ y. stopped S L σ (y ∷ t) ≡ true) (sym e) h | inr d ↦ other d ]
 
+    -- what is known of the part-choice after which a ground is learned
+    pub record Where-learned (σ : State) (t : Part) : Type 0 where
+      pub small : length t < S .places
+      pub proper : Proper S t
+      pub passed : Passed (stopped S L σ) t
+      pub all : (x : ℕ) → 1 ≤ x → x ≤ S .versions (open-places S t) → stopped S L σ (x ∷ t) ≡ true
+
+    pub where-learned : (σ : State) → Invariant σ → (t : Part) → Learns S L σ t → Where-learned σ t
+    where-learned σ i t (no-other v _ e h all) =
+        let pr : Proper S (v ∷ t) = subst (Proper S) e (i .proper) in
+        let pa : Passed (stopped S L σ) (v ∷ t) = subst (Passed (stopped S L σ)) e (i .passed) in
+        record { small = pr .0; proper = pr .3; passed = pa .1; all = λ x p q. every-version σ v t h x (all x p q) }
+    where-learned σ i t (no-version some free all) =
+        record { small = omega arith; proper = i .proper; passed = i .passed; all = λ x p q. all x p q (λ z. z) }
+
     pub step-invariant : (σ τ : State) → Invariant σ → Step S L σ τ → Invariant τ
     step-invariant σ τ i (move v w t e h low d) =
         let pr : Proper S (v ∷ t) = subst (Proper S) e (i .proper) in
@@ -204,17 +218,6 @@ module _ (S : Setting) where
           passed = (λ x p q. every-version σ v t h x (low .lowest x p q), pa .1);
           best = i .best;
           space = i .space;
-        })
-    step-invariant σ τ i (give-way v t e h all space d) =
-        let pr : Proper S (v ∷ t) = subst (Proper S) e (i .proper) in
-        let pa : Passed (stopped S L σ) (v ∷ t) = subst (Passed (stopped S L σ)) e (i .passed) in
-        let g : Ground = ground-at S L σ t in
-        subst Invariant (sym d) (record {
-          proper = pr .3;
-          learnable = one-more-learnable σ t i (pr .0) (λ x p q. every-version σ v t h x (all x p q));
-          passed = passed-more (stopped S L σ) (stopped S L (with-ground σ t g)) (grown σ t g) t (pa .1);
-          best = i .best;
-          space = space-push (σ .learned) g space;
         })
     step-invariant σ τ i (found full free d) =
         subst Invariant (sym d) (record {
@@ -232,13 +235,13 @@ module _ (S : Setting) where
           best = i .best;
           space = i .space;
         })
-    step-invariant σ τ i (stay some free all space d) =
-        let t : Part = σ .part in
+    step-invariant σ τ i (learns t l space d) =
+        let w = where-learned σ i t l in
         let g : Ground = ground-at S L σ t in
         subst Invariant (sym d) (record {
-          proper = i .proper;
-          learnable = one-more-learnable σ t i (omega arith) (λ x p q. all x p q (λ z. z));
-          passed = passed-more (stopped S L σ) (stopped S L (with-ground σ t g)) (grown σ t g) t (i .passed);
+          proper = w .proper;
+          learnable = one-more-learnable σ t i (w .small) (w .all);
+          passed = passed-more (stopped S L σ) (stopped S L (with-ground σ t g)) (grown σ t g) t (w .passed);
           best = i .best;
           space = space-push (σ .learned) g space;
         })

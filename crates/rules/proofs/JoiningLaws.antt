@@ -3,7 +3,7 @@ use mathlib.Core.Path.{_≡_, sym}
 use mathlib.Core.Bool.{true, false, not}
 use Prim.Native.Nat.{_+_, _-_, _^_, _≤_}
 use native.Mathlib.Omega.{arith}
-use lib.IntN.{ℤ, pos, negsuc, natAbs, _+ℤ_, +ℤ-assoc, +ℤ-comm, +ℤ-idl}
+use lib.IntN.{ℤ, negsuc, natAbs, _+ℤ_, +ℤ-assoc, +ℤ-comm, +ℤ-idl}
 use borrow.Author.Differences.{abs-is}
 use lib.Signed.{ltZ}
 use Rattle.std.specs.Numbers.{maxZ}

@@ -1,11 +1,10 @@
 -- A learned ground, told by its lines. Assumes nothing.
 use mathlib.Core.Path.{_≡_, refl, sym, ap, _∙_, subst}
-use mathlib.Core.Bool.{Bool, true, false, cond}
+use mathlib.Core.Bool.{true, false}
 use mathlib.Core.List.{List, [], _∷_, map}
-use mathlib.Core.Logic.{_⊎_, inl, inr}
-use Prim.Native.Nat.{ℕ, zero, suc, _≤_, _<_}
+use mathlib.Core.Logic.{inl, inr}
+use Prim.Native.Nat.{ℕ, zero, suc, _≤_}
 use native.Mathlib.Omega.{arith}
-use lib.IntN.{ℤ}
 use lib.Dec.{eqb}
 use Rattle.std.specs.shelf.Lists.{All}
 use Rattle.std.proofs.shelf.Tests.{cond-both, and-parts, eqb-true, cases-lt}
@@ -15,7 +14,7 @@ use Rattle.rules.specs.Grounds.{Ground, Ordered, Part, Setting, Sound-setting,
 use Rattle.rules.specs.Theorems.{Learning-law, Replaces}
 use Rattle.rules.proofs.Bools.{split, clash}
 use Rattle.rules.proofs.Joined.{still-worse}
-use Rattle.rules.proofs.StandingLines.{Known, with-line-all, with-lines-all}
+use Rattle.rules.proofs.StandingLines.{Known, with-lines-all}
 use Rattle.rules.proofs.Shapes.{ordered-with-lines}
 
 any-weaker : {A : Type 0} (P Q : A → Type 0) → ((x : A) → P x → Q x) → (xs : List A) → Any P xs → Any Q xs

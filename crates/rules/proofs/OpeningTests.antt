@@ -1,18 +1,18 @@
 -- An opening finds a fault exactly when there is one. Assumes nothing.
-use mathlib.Core.Path.{_≡_, refl, sym, ap, ap₂, _∙_, subst}
-use mathlib.Core.Bool.{Bool, true, false, cond, _&&_, _||_}
+use mathlib.Core.Path.{_≡_, refl, subst}
+use mathlib.Core.Bool.{Bool, true, false}
 use mathlib.Core.List.{List, [], _∷_, _++_}
-use mathlib.Core.Logic.{_⊎_, inl, inr}
-use Prim.Native.Nat.{ℕ, zero, suc, _+_, _-_, _≤_, _<_}
+use mathlib.Core.Logic.{inl, inr}
+use Prim.Native.Nat.{ℕ, zero, suc, _+_, _-_, _≤_}
 use native.Mathlib.Omega.{arith}
-use lib.IntN.{ℤ, natAbs}
+use lib.IntN.{natAbs}
 use lib.Dec.{leb, eqb}
 use lib.ListN.{length}
 use Rattle.std.specs.Options.{isSome}
 use Rattle.std.specs.declared.option.Option.{Option}
 use Rattle.std.specs.declared.option.Option.the-variants.{Some, None}
 use Rattle.std.specs.shelf.Lists.{All}
-use Rattle.std.proofs.shelf.Tests.{and-parts, and-from, or-cases, or-left, or-right, leb-true, le-leb, eqb-true, eq-eqb, cases-lt, cases-eq, ne-eqb, cond-true, cond-false}
+use Rattle.std.proofs.shelf.Tests.{and-parts, and-from, or-cases, or-left, or-right, leb-true, le-leb, eqb-true, eq-eqb, cases-lt, cond-true}
 use Rattle.rules.specs.declared.refusals.Fault.{Fault}
 use Rattle.rules.specs.declared.refusals.Refusal.the-variants.{AmountBeyond, CountOutside, CountsDiffer, LimitBeyond, OrderNotOnce, UnknownKind}
 use Rattle.rules.specs.declared.sheets.Sheet.{Sheet}

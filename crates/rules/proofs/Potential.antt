@@ -1,21 +1,19 @@
 -- A number that falls with every step, so that a search makes fewer steps than twice the number of part-choices. Assumes nothing.
-use mathlib.Core.Path.{_≡_, refl, sym, ap, _∙_, subst}
-use mathlib.Core.Bool.{Bool, true, false, cond, _&&_, _||_}
-use mathlib.Core.List.{List, [], _∷_, _++_}
-use mathlib.Core.Logic.{_⊎_, inl, inr}
-use Prim.Native.Nat.{ℕ, zero, suc, pred, _+_, _-_, _*_, _≤_, _<_}
-use native.Mathlib.Nat.{mul-le-mul-right, suc-mul, mul-left-comm, mul-add}
+use mathlib.Core.Path.{_≡_, sym, ap, _∙_, subst}
+use mathlib.Core.Bool.{Bool, true, false, cond}
+use mathlib.Core.List.{List, [], _∷_}
+use mathlib.Core.Logic.{inl, inr}
+use Prim.Native.Nat.{ℕ, zero, suc, _+_, _-_, _*_, _≤_, _<_}
+use native.Mathlib.Nat.{mul-le-mul-right, suc-mul, mul-left-comm}
 use native.Mathlib.Omega.{arith}
-use lib.Dec.{ltb}
-use lib.IntN.{ℤ, pos}
 use lib.ListN.{length, replicate, length-replicate}
 use Rattle.std.specs.shelf.Lists.{All}
-use Rattle.std.proofs.shelf.Tests.{cond-true, cond-false, cond-both, cases-lt, le-ltb, lt-ltb}
+use Rattle.std.proofs.shelf.Tests.{cond-true, cond-false, cases-lt}
 use Rattle.rules.specs.Sheets.{Limits}
-use Rattle.rules.specs.Grounds.{Ground, Learnable, Part, Proper, Setting, Sound-setting, open-places}
-use Rattle.rules.specs.Search.{Runs, State, Step, found, give-way, more, move, none, set, start, stay, stopped}
-use Rattle.rules.proofs.Bools.{split, clash}
-use Rattle.rules.proofs.Invariant.{Passed, Space, Invariant, proper-length, start-invariant, step-invariant, found-stops, learned-stops, every-version}
+use Rattle.rules.specs.Grounds.{Ground, Learnable, Part, Setting, Sound-setting, open-places}
+use Rattle.rules.specs.Search.{Learns, Runs, State, Step, found, learns, more, move, no-other, no-version, none, set, start, stopped}
+use Rattle.rules.proofs.Bools.{clash}
+use Rattle.rules.proofs.Invariant.{Passed, Space, Invariant, start-invariant, step-invariant, found-stops, learned-stops, where-learned}
 
 -- one version lower leaves room for a whole subtree more
 room-below : (k v w x : ℕ) → v < w → w ≤ k → (k - w) * x + x ≤ (k - v) * x
@@ -96,6 +94,12 @@ module _ (S : Setting) where
     pub potential : State → ℕ
     potential σ = height (stopped S L σ (σ .part)) (σ .part)
 
+    -- where a ground is learned there was more above the part-choice
+    learns-above : (σ : State) (t : Part) → Learns S L σ t → 1 + weight t < potential σ
+    unfolding potential
+    learns-above σ t (no-other v _ e h all) = omega (arith, ap (λ s. height (stopped S L σ s) s) e ∙ height-stopped _ (v ∷ t) h)
+    learns-above σ t (no-version some free all) = omega (arith, height-free _ (σ .part) free, under-big (σ .part))
+
     pub step-falls : (σ τ : State) → Invariant S W L σ → Step S L σ τ → potential τ < potential σ
     unfolding potential
     step-falls σ τ i (move v w t e h low d) =
@@ -113,14 +117,6 @@ module _ (S : Setting) where
       where
         potential-at : Part → ℕ
         potential-at s = height (stopped S L σ s) s
-    step-falls σ τ i (give-way v t e h all space d) =
-        let pr : Proper S (v ∷ t) = subst (Proper S) e (i .proper) in
-        let before : potential σ ≡ 1 + weight (v ∷ t) = ap potential-at e ∙ height-stopped _ (v ∷ t) h in
-        let after : potential τ ≡ 1 + weight t = ap potential d ∙ height-stopped _ t (learned-stops S W L σ t (i .learnable) (pr .0) (λ x p q. every-version S W L σ v t h x (all x p q))) in
-        omega (arith, before, after)
-      where
-        potential-at : Part → ℕ
-        potential-at s = height (stopped S L σ s) s
     step-falls σ τ i (found full free d) =
         let before : potential σ ≡ under (σ .part) + weight (σ .part) = height-free _ (σ .part) free in
         let after : potential τ ≡ 1 + weight (σ .part) = ap potential d ∙ height-stopped _ (σ .part) (found-stops S W L σ full) in
@@ -129,10 +125,10 @@ module _ (S : Setting) where
         let before : potential σ ≡ under (σ .part) + weight (σ .part) = height-free _ (σ .part) free in
         let after : potential τ ≡ under (w ∷ σ .part) + weight (w ∷ σ .part) = ap potential d ∙ height-free _ (w ∷ σ .part) (low .free) in
         omega (arith, before, after, fall-set w (σ .part) (omega arith) (low .counted) (low .there))
-    step-falls σ τ i (stay some free all space d) =
-        let before : potential σ ≡ under (σ .part) + weight (σ .part) = height-free _ (σ .part) free in
-        let after : potential τ ≡ 1 + weight (σ .part) = ap potential d ∙ height-stopped _ (σ .part) (learned-stops S W L σ (σ .part) (i .learnable) (omega arith) (λ x p q. all x p q (λ z. z))) in
-        omega (arith, before, after, under-big (σ .part))
+    step-falls σ τ i (learns t l space d) =
+        let w = where-learned S W L σ i t l in
+        let after : potential τ ≡ 1 + weight t = ap potential d ∙ height-stopped _ t (learned-stops S W L σ t (i .learnable) (w .small) (w .all)) in
+        omega (arith, after, learns-above σ t l)
 
     runs-fall : {k : ℕ} {σ τ : State} → Invariant S W L σ → Runs S L k σ τ → k + potential τ ≤ potential σ
     runs-fall i none = omega arith

@@ -1,11 +1,8 @@
 -- What is promised at every time of a history. Assumes nothing.
-use mathlib.Core.Path.{_≡_, refl, sym, ap, _∙_, subst}
-use mathlib.Core.List.{List, [], _∷_}
+use mathlib.Core.Path.{_≡_, subst}
+use mathlib.Core.List.{List}
 use Prim.Native.Nat.{ℕ, _*_, _<_}
-use native.Mathlib.Omega.{arith}
-use Rattle.std.specs.declared.option.Option.{Option}
 use Rattle.std.specs.declared.option.Option.the-variants.{Some, None}
-use Rattle.std.specs.shelf.Lists.{All}
 use Rattle.std.proofs.shelf.Elements.{all-weaker}
 use Rattle.rules.specs.declared.sheets.Sheet.{Sheet}
 use Rattle.rules.specs.Catalogues.{Meaning, Sound-meaning}
@@ -20,7 +17,6 @@ use Rattle.rules.specs.Settings.{True-ground, setting, told}
 use Rattle.rules.specs.Promises.{Few-steps, Right, Right-throughout, Says, Steps-named, by-run, by-verdict}
 use Rattle.rules.specs.Theorems.{Ground-law, Promise-law}
 use Rattle.rules.proofs.Learning.{learnable-sound}
-use Rattle.rules.proofs.Potential.{parts}
 use Rattle.rules.proofs.CallHistories.{Found-right, Counted, Kept, invariant, counted, found-right, all-kept, held, all-limits, last-budget}
 use Rattle.rules.proofs.ByPlace.{none-by-place, cheapest-by-place, closes-by-place, closes-under, sound-setting, setting-versions, amounts-near, true-by-place, best-by-place-keeps}
 use Rattle.rules.proofs.Counts.{counts-agree}

@@ -1,28 +1,21 @@
 -- Learned grounds are well formed, and their constants are near 0. Assumes nothing.
-use mathlib.Core.Path.{_≡_, refl, sym, ap, _∙_, subst}
-use mathlib.Core.Bool.{Bool, true, false, cond, _&&_, _||_}
-use mathlib.Core.List.{List, [], _∷_, _++_, map}
-use mathlib.Core.Logic.{_⊎_, inl, inr}
-use Prim.Native.Nat.{ℕ, zero, suc, pred, _+_, _-_, _*_, _^_, _≤_, _<_}
+use mathlib.Core.Path.{_≡_, sym, ap, _∙_}
+use mathlib.Core.Bool.{true, false}
+use mathlib.Core.List.{List, [], _∷_, map}
+use Prim.Native.Nat.{ℕ, zero, suc, _+_, _-_, _*_, _≤_, _<_}
 use native.Mathlib.Nat.{suc-mul}
 use native.Mathlib.Omega.{arith}
-use lib.IntN.{ℤ, natAbs}
-use lib.Dec.{leb, ltb, eqb}
+use lib.IntN.{natAbs}
+use lib.Dec.{eqb}
 use lib.ListN.{length}
-use Rattle.std.specs.Options.{isSome}
-use Rattle.std.specs.declared.option.Option.{Option}
-use Rattle.std.specs.declared.option.Option.the-variants.{Some, None}
 use Rattle.std.specs.shelf.Lists.{All}
-use Rattle.std.proofs.shelf.Elements.{all-append, all-weaker}
+use Rattle.std.proofs.shelf.Elements.{all-weaker}
 use Rattle.std.proofs.shelf.Ways.{tells}
-use Rattle.std.proofs.shelf.Tests.{cond-true, cond-false, cond-both, eqb-true, eqb-false, cases-lt}
+use Rattle.std.proofs.shelf.Tests.{cond-both, eqb-true}
 use Rattle.rules.specs.declared.lines.Line.{Line}
 use Rattle.rules.specs.Grounds.{Ground, Learnable, Ordered, Part, Setting, Sound-setting, Well-formed, before, by-learning, from-row, kept, learn-from, learned-up-to, moved, of-row, open-places, same-place, with-line, with-lines}
 use Rattle.rules.proofs.ByPosition.{Amounts-near, Near}
-use Rattle.rules.proofs.Bools.{split, clash}
-use Rattle.rules.proofs.Joined.{joined-on, joined-off}
 use Rattle.rules.proofs.StandingLines.{with-line-all, with-lines-all}
-use Rattle.rules.proofs.Firsts.{Holds, first-holds}
 
 module _ (S : Setting) where
   before-trans : (a b c : Line) → before S a b ≡ true → before S b c ≡ true → before S a c ≡ true

@@ -1,7 +1,7 @@
 -- The calls on a job, what each answers, and how it leaves the job. Assumes nothing.
 use mathlib.Core.Path.{_≡_}
-use mathlib.Core.Bool.{Bool, true, false, cond}
-use mathlib.Core.List.{List, [], _∷_}
+use mathlib.Core.Bool.{cond}
+use mathlib.Core.List.{List, []}
 use Prim.Native.Nat.{ℕ, zero, suc, _+_, _≤_, _<_}
 use lib.IntN.{ℤ, pos, negsuc, natAbs}
 use lib.Dec.{leb}
@@ -14,7 +14,7 @@ use Rattle.rules.specs.Bounds.{greatest-limit, most-steps}
 use Rattle.rules.specs.Sheets.{Limits}
 use Rattle.rules.specs.Choices.{changed}
 use Rattle.rules.specs.Grounds.{Setting, Part, Ground}
-use Rattle.rules.specs.Search.{State, start, Runs, Outcome, ended, full, stepped, Ended, Full, Step, Named, next}
+use Rattle.rules.specs.Search.{State, start, Runs, Outcome, ended, full, stepped, Named, next}
 
 -- What a closed search found: the least choice or that none keeps the limits, each with the closing ground, or, if it has not ended, the best so far.
 pub data Finding : Type 0 where

@@ -4,20 +4,18 @@ use mathlib.Core.Bool.{Bool, true, false}
 use mathlib.Core.List.{List, [], _∷_}
 use Prim.Native.Nat.{ℕ, _-_}
 use lib.IntN.{ℤ, pos, negsuc}
-use lib.ListN.{getD, replicate}
+use lib.ListN.{getD}
 use Rattle.std.specs.declared.option.Option.{Option}
 use Rattle.std.specs.declared.option.Option.the-variants.{Some, None}
 use Rattle.std.specs.shelf.Lists.{All}
 use Rattle.rules.specs.declared.lines.Line.{Line}
 use Rattle.rules.specs.declared.lines.ClosingLine.{ClosingLine}
 use Rattle.rules.specs.declared.records.CallRecord.{CallRecord}
-use Rattle.rules.specs.declared.sheets.Row.{Row}
 use Rattle.rules.specs.declared.sheets.Sheet.{Sheet}
-use Rattle.rules.specs.Joinings.{Joining, greatest-at-most}
+use Rattle.rules.specs.Joinings.{greatest-at-most}
 use Rattle.rules.specs.Catalogues.{Meaning, rung}
-use Rattle.rules.specs.Sheets.{Limits, blank-row}
 use Rattle.rules.specs.Choices.{Told, says-least, says-none}
-use Rattle.rules.specs.Grounds.{Setting, line-stands, kept}
+use Rattle.rules.specs.Grounds.{line-stands, kept}
 use Rattle.rules.specs.Calls.{closed, running}
 use Rattle.rules.specs.Settings.{setting, Seen, seen}
 use Rattle.rules.specs.Records.{Kept-job, faulty, faultless, work-job}

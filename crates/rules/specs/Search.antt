@@ -82,23 +82,27 @@ module _ (S : Setting) (L : Limits) where
   abbrev pub None-free : State → Part → (ℕ → Type 0) → Type 0
   None-free σ t passed = (x : ℕ) → 1 ≤ x → x ≤ S .versions (open-places S t) → (passed x → ⊥) → stopped σ (x ∷ t) ≡ true
 
+  -- A ground is to be learned at the position set next after t.
+  pub data Learns (σ : State) : Part → Type 0 where
+    -- a ground stands, and with each other version of the lowest place that is set one stands too: there, and the place opens
+    no-other : (v : ℕ) (t : Part) → σ .part ≡ v ∷ t → stopped σ (v ∷ t) ≡ true → None-free σ t (λ x. x ≡ v) → Learns σ t
+    -- no ground stands, a place is open, and with each version of the last open place one stands: there, and the place stays open
+    no-version : 0 < open-places S (σ .part) → stopped σ (σ .part) ≡ false → None-free σ (σ .part) (λ x. ⊥) → Learns σ (σ .part)
+
   -- A step from one state to another.
   pub data Step (σ τ : State) : Type 0 where
     -- a ground stands: the lowest place that is set takes its lowest other version with which none stands
     move : (v w : ℕ) (t : Part) → σ .part ≡ v ∷ t → stopped σ (v ∷ t) ≡ true → Lowest-free σ t (λ x. x ≡ v) w → τ ≡ at-part σ (w ∷ t) → Step σ τ
-    -- a ground stands, and no other version is free: a ground is learned there, and the place opens
-    give-way : (v : ℕ) (t : Part) → σ .part ≡ v ∷ t → stopped σ (v ∷ t) ≡ true → None-free σ t (λ x. x ≡ v) → room (σ .learned) (ground-at σ t) ≡ true → τ ≡ with-ground σ t (ground-at σ t) → Step σ τ
     -- no ground stands, and no place is open: the choice becomes the best
     found : open-places S (σ .part) ≡ 0 → stopped σ (σ .part) ≡ false → τ ≡ with-best σ → Step σ τ
-    -- no ground stands, and a place is open: it takes its lowest free version
+    -- no ground stands, and a place is open: it takes its lowest version with which none stands
     set : (w : ℕ) → 0 < open-places S (σ .part) → stopped σ (σ .part) ≡ false → Lowest-free σ (σ .part) (λ x. ⊥) w → τ ≡ at-part σ (w ∷ σ .part) → Step σ τ
-    -- no ground stands, a place is open, and none of its versions is free: a ground is learned there
-    stay : 0 < open-places S (σ .part) → stopped σ (σ .part) ≡ false → None-free σ (σ .part) (λ x. ⊥) → room (σ .learned) (ground-at σ (σ .part)) ≡ true → τ ≡ with-ground σ (σ .part) (ground-at σ (σ .part)) → Step σ τ
+    -- there is no such version, and the ledger has space: a ground is learned
+    learns : (t : Part) → Learns σ t → room (σ .learned) (ground-at σ t) ≡ true → τ ≡ with-ground σ t (ground-at σ t) → Step σ τ
 
-  -- The next step would learn a ground for which the ledger lacks space.
-  pub data Full (σ : State) : Type 0 where
-    no-other : (v : ℕ) (t : Part) → σ .part ≡ v ∷ t → stopped σ (v ∷ t) ≡ true → None-free σ t (λ x. x ≡ v) → room (σ .learned) (ground-at σ t) ≡ false → Full σ
-    no-version : 0 < open-places S (σ .part) → stopped σ (σ .part) ≡ false → None-free σ (σ .part) (λ x. ⊥) → room (σ .learned) (ground-at σ (σ .part)) ≡ false → Full σ
+  -- The search is full: the next step would learn a ground for which the ledger lacks space.
+  abbrev pub Full : State → Type 0
+  Full σ = (t : Part) × Learns σ t × (room (σ .learned) (ground-at σ t) ≡ false)
 
   -- So many steps lead from one state to another.
   pub data Runs : ℕ → State → State → Type 0 where

@@ -1,8 +1,8 @@
-use mathlib.Core.Path.{_≡_, sym, ap, _∙_}
-use Prim.Native.Nat.{ℕ, _+_, _-_}
+use mathlib.Core.Path.{_≡_}
+use Prim.Native.Nat.{ℕ, _-_}
 use native.Mathlib.Omega.{arith}
 use lib.ListN.{set}
-use Rattle.exhaustive.specs.Trials.{guarded, cheapest-to, tried}
+use Rattle.exhaustive.specs.Trials.{guarded, tried}
 use Rattle.exhaustive.proofs.Versions.{cheapest-more, tried-more}
 use Rattle.exhaustive.proofs.trials.+try_last.Needs as need
 

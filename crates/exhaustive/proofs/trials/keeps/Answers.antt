@@ -1,6 +1,5 @@
 use mathlib.Core.Path.{_≡_, sym, ap, _∙_}
-use mathlib.Core.Bool.{Bool}
-use Prim.Native.Nat.{ℕ, suc}
+use Prim.Native.Nat.{suc}
 use native.Mathlib.Omega.{arith}
 use Rattle.exhaustive.specs.Trials.{guarded, all-first, row-kept}
 use Rattle.exhaustive.proofs.KeptRows.{one-fails, one-more}
