@@ -43,7 +43,7 @@ module _ (m : Meaning) (s : Sheet) (W : Sound-setting (setting m s)) (near : Amo
       let c : open-places S [] ≤ l .level = leb-true _ _ (b .0) in
       (omega (arith, c, r .0 .1), levels L g (a .1) (r .1))
 
-  later-rows : (a : Line) (g : Ground) → a .level ≡ S .places → All (λ b. before S a b ≡ true) g → All (λ l. l .level ≡ S .places) g → All (λ k. a .row < k .row) (closing-lines g)
+  later-rows : (a : Line) (g : Ground) → a .level ≡ S .places → All (λ b. before a b ≡ true) g → All (λ l. l .level ≡ S .places) g → All (λ k. a .row < k .row) (closing-lines g)
   later-rows a [] e h k = tt
   later-rows a (b ∷ g) e h k = (
     elim (or-cases (ltb (a .row) (b .row)) _ (h .0)) [
@@ -53,7 +53,7 @@ module _ (m : Meaning) (s : Sheet) (W : Sound-setting (setting m s)) (near : Amo
     later-rows a g e (h .1) (k .1),
   )
 
-  rising : (g : Ground) → Ordered S g → All (λ l. l .level ≡ S .places) g → Rising (closing-lines g)
+  rising : (g : Ground) → Ordered g → All (λ l. l .level ≡ S .places) g → Rising (closing-lines g)
   rising [] h k = tt
   rising (a ∷ g) h k = (later-rows a g (k .0) (h .0) (k .1), rising g (h .1) (k .1))
 

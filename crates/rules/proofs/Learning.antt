@@ -152,18 +152,18 @@ module _ (S : Setting) where
 
     -- the ground learned where no version is free
     module _ (L : Limits) (gs : List Ground) (learnable : All (Learnable S) gs) (t : Part) (small : length t < S .places) (all : (v : ℕ) → 1 ≤ v → v ≤ S .versions (open-places S t) → blocked S L gs (v ∷ t) ≡ true) where
-      standing-in : (s : Part) (o : Option Ground) → isSome o ≡ true → Holds (λ g. Learnable S g × (stands S L s g ≡ true)) o → Learnable S (ground-in S o) × (stands S L s (ground-in S o) ≡ true)
+      standing-in : (s : Part) (o : Option Ground) → isSome o ≡ true → Holds (λ g. Learnable S g × (stands S L s g ≡ true)) o → Learnable S (ground-in o) × (stands S L s (ground-in o) ≡ true)
       standing-in s None b h = clash {b = false} b refl
       standing-in s (Some g) b h = h
 
-      at-version : (v : ℕ) → 1 ≤ v → v ≤ S .versions (open-places S t) → Learnable S (ground-in S (first-standing S L gs (v ∷ t))) × (stands S L (v ∷ t) (ground-in S (first-standing S L gs (v ∷ t))) ≡ true)
+      at-version : (v : ℕ) → 1 ≤ v → v ≤ S .versions (open-places S t) → Learnable S (ground-in (first-standing S L gs (v ∷ t))) × (stands S L (v ∷ t) (ground-in (first-standing S L gs (v ∷ t))) ≡ true)
       at-version v p q = standing-in (v ∷ t) (first-standing S L gs (v ∷ t)) (all v p q) (first-holds S (Learnable S) L (v ∷ t) gs learnable)
 
       -- can be learned,
       pub learn-learnable : Learnable S (learn S L gs t)
-      learn-learnable = by-learning t (λ v. ground-in S (first-standing S L gs (v ∷ t))) small (λ v p q. at-version v p q .0)
+      learn-learnable = by-learning t (λ v. ground-in (first-standing S L gs (v ∷ t))) small (λ v p q. at-version v p q .0)
 
       -- and stands where it is learned
       pub learn-stands : stands S L t (learn S L gs t) ≡ true
       learn-stands =
-          learn-from-stands W t (λ v. ground-in S (first-standing S L gs (v ∷ t))) L small (λ v p q. let h = at-version v p q in (learnable-sound (h .0) .known, h .1))
+          learn-from-stands W t (λ v. ground-in (first-standing S L gs (v ∷ t))) L small (λ v p q. let h = at-version v p q in (learnable-sound (h .0) .known, h .1))

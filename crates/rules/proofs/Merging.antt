@@ -40,7 +40,7 @@ module _ (S : Setting) (W : Sound-setting S) where
   replaces-itself a h = (refl, refl, W .laws (a .row) h .irreflexive (a .constant))
 
   -- what is kept of two lines at one place replaces both
-  kept-first : (a b : Line) → Known S a → same-place S a b ≡ true → Replaces S (kept S a b) a
+  kept-first : (a b : Line) → Known S a → same-place a b ≡ true → Replaces S (kept S a b) a
   kept-first a b h e =
       cond-both (S .joining (a .row) .worse (a .constant) (b .constant)) b a (λ x. Replaces S x a)
       (λ w.
@@ -50,7 +50,7 @@ module _ (S : Setting) (W : Sound-setting S) where
       (r, q, subst (λ x. S .joining x .worse (b .constant) (a .constant) ≡ false) (sym r) back))
       (λ w. replaces-itself a h)
 
-  kept-second : (a b k : Line) → Known S a → same-place S a b ≡ true → Replaces S b k → Replaces S (kept S a b) k
+  kept-second : (a b k : Line) → Known S a → same-place a b ≡ true → Replaces S b k → Replaces S (kept S a b) k
   kept-second a b k h e m =
       cond-both (S .joining (a .row) .worse (a .constant) (b .constant)) b a (λ x. Replaces S x k)
       (λ w. m)
@@ -67,18 +67,18 @@ module _ (S : Setting) (W : Sound-setting S) where
   covered-new : (a : Line) (g : Ground) → Known S a → Covered (with-line S a g) a
   covered-new a [] h = inl (replaces-itself a h)
   covered-new a (b ∷ g) h =
-      cond-both (before S a b) (a ∷ b ∷ g) _ (λ x. Covered x a)
+      cond-both (before a b) (a ∷ b ∷ g) _ (λ x. Covered x a)
       (λ e. inl (replaces-itself a h))
-      (λ e. cond-both (same-place S a b) (kept S a b ∷ g) _ (λ x. Covered x a)
+      (λ e. cond-both (same-place a b) (kept S a b ∷ g) _ (λ x. Covered x a)
       (λ d. inl (kept-first a b h d))
       (λ d. inr (covered-new a g h)))
 
   covered-still : (a k : Line) (g : Ground) → Known S a → Covered g k → Covered (with-line S a g) k
   covered-still a k [] h m = absurd m
   covered-still a k (b ∷ g) h m =
-      cond-both (before S a b) (a ∷ b ∷ g) _ (λ x. Covered x k)
+      cond-both (before a b) (a ∷ b ∷ g) _ (λ x. Covered x k)
       (λ e. inr m)
-      (λ e. cond-both (same-place S a b) (kept S a b ∷ g) _ (λ x. Covered x k)
+      (λ e. cond-both (same-place a b) (kept S a b ∷ g) _ (λ x. Covered x k)
       (λ d. elim m [ inl z ↦ inl (kept-second a b k h d z) | inr z ↦ inr z ])
       (λ d. elim m [ inl z ↦ inl z | inr z ↦ inr (covered-still a k g h z) ]))
 
@@ -95,7 +95,7 @@ module _ (S : Setting) (W : Sound-setting S) where
     moved-known v [] h = tt
     moved-known v (l ∷ ls) h = (cond-both (eqb (suc (l .level)) (open-places S t)) _ l (Known S) (λ _. h .0) (λ _. h .0), moved-known v ls (h .1))
 
-    up-to-ordered : (k : ℕ) → Ordered S (learned-up-to S t pick k)
+    up-to-ordered : (k : ℕ) → Ordered (learned-up-to S t pick k)
     up-to-ordered zero = tt
     up-to-ordered (suc k) = ordered-with-lines S (map (moved S t (suc k)) (pick (suc k))) (learned-up-to S t pick k) (up-to-ordered k)
 

@@ -39,11 +39,11 @@ module _ (S : Setting) (L : Limits) where
   not-used b w n e = absurd (n e)
 
   -- what is left of a run where the rules name an outcome
-  from-outcome : ℕ → State → Outcome → Ran S
+  from-outcome : ℕ → State → Outcome → Ran
   from-outcome b σ o = elim o [
     | ended g ↦ record { reason = has-ended; made = 0; state = σ }
     | full ↦ record { reason = is-full; made = 0; state = σ }
-    | stepped τ ↦ one-more S (run-from S L b τ)
+    | stepped τ ↦ one-more (run-from S L b τ)
   ]
 
   run-worked : (b : ℕ) (σ : State) → Run S L b σ (run-from S L b σ .reason) (run-from S L b σ .made) (run-from S L b σ .state)
@@ -69,7 +69,7 @@ module _ (S : Setting) (L : Limits) where
   unique (suc b) {σ = σ} none o n l u = ap (from-outcome b σ) (sym (named-next S L σ o n)) ∙ stops-at b σ o u
   unique zero (more s r) o n l u = absurd (omega arith)
   unique (suc b) {σ = σ} (more {k = k} {τ = τ} {υ = υ} s r) o n l u =
-      ap (from-outcome b σ) (step-next S L σ τ s) ∙ ap (one-more S) (unique b r o n (omega arith) (λ e. omega (arith, u e)))
+      ap (from-outcome b σ) (step-next S L σ τ s) ∙ ap (one-more) (unique b r o n (omega arith) (λ e. omega (arith, u e)))
 
   pub run-unique : (b : ℕ) (σ : State) (reason : Why) (made : ℕ) (τ : State) → Run S L b σ reason made τ → record { reason = reason; made = made; state = τ } ≡ run-from S L b σ
   run-unique b σ reason made τ r =
@@ -77,7 +77,7 @@ module _ (S : Setting) (L : Limits) where
       ∙ sym (unique b (r .steps) (r .outcome) (r .named) (r .within) (λ e. r .used (r .reason-is ∙ e)))
 
 module _ (S : Setting) where
-  abbrev Fits : Job → Call → Reply S → Type 0
+  abbrev Fits : Job → Call → Reply → Type 0
   Fits j c r = Does S j c (r .answer) (r .job)
 
   -- what is worked out is what the rules say
@@ -104,7 +104,7 @@ module _ (S : Setting) where
   reply-does (running L σ) (run (negsuc below)) = refuses negative
 
   -- and nothing else is
-  refuses-reply : (j : Job) (c : Call) (e : Refusal) → Refuses S j c e → replied S (refused e) j ≡ reply S j c
+  refuses-reply : (j : Job) (c : Call) (e : Refusal) → Refuses S j c e → replied (refused e) j ≡ reply S j c
   unfolding reply
   refuses-reply j c e no-run = refl
   refuses-reply j c e no-close = refl
@@ -117,7 +117,7 @@ module _ (S : Setting) where
   refuses-reply j c e negative = refl
   refuses-reply j c e (budget-beyond {σ = σ} {budget = budget} h) = sym (cond-false (leb (σ .steps + budget) most-steps) _ _ (lt-leb _ _ h))
 
-  does-reply : (j : Job) (c : Call) (a : Answer) (k : Job) → Does S j c a k → replied S a k ≡ reply S j c
+  does-reply : (j : Job) (c : Call) (a : Answer) (k : Job) → Does S j c a k → replied a k ≡ reply S j c
   unfolding reply
   does-reply j c a k (refuses {e = e} r) = refuses-reply j c e r
   does-reply j c a k (changes {row = row} {limit = limit} h d) =
@@ -125,8 +125,8 @@ module _ (S : Setting) where
   does-reply j c a k clears = refl
   does-reply j c a k searches = refl
   does-reply j c a k (runs {L} {σ} {τ} {budget} {made} {reason} h r) =
-      ap (run-reply S L) (run-unique S L budget σ reason made τ r) ∙ sym (cond-true (leb (σ .steps + budget) most-steps) _ _ (le-leb _ _ h))
-  does-reply j c a k (closes {L} {σ} o n) = ap (λ x. replied S taken (closed L (σ .learned) (Some (verdict σ x)))) (named-next S L σ o n)
+      ap (run-reply L) (run-unique S L budget σ reason made τ r) ∙ sym (cond-true (leb (σ .steps + budget) most-steps) _ _ (le-leb _ _ h))
+  does-reply j c a k (closes {L} {σ} o n) = ap (λ x. replied taken (closed L (σ .learned) (Some (verdict σ x)))) (named-next S L σ o n)
 
 pub call-law : Call-law
 call-law S j c = (reply-does S j c, λ a k d. (ap (λ r. r .answer) (does-reply S j c a k d), ap (λ r. r .job) (does-reply S j c a k d)))

@@ -18,34 +18,34 @@ use Rattle.rules.proofs.ByPosition.{Amounts-near, Near}
 use Rattle.rules.proofs.StandingLines.{with-line-all, with-lines-all}
 
 module _ (S : Setting) where
-  before-trans : (a b c : Line) → before S a b ≡ true → before S b c ≡ true → before S a c ≡ true
+  before-trans : (a b c : Line) → before a b ≡ true → before b c ≡ true → before a c ≡ true
   before-trans a b c h k = grind (arith, tells)
 
-  before-back : (a b : Line) → before S a b ≡ false → same-place S a b ≡ false → before S b a ≡ true
+  before-back : (a b : Line) → before a b ≡ false → same-place a b ≡ false → before b a ≡ true
   before-back a b h k = grind (arith, tells)
 
-  before-same : (a b c : Line) → same-place S a b ≡ true → before S b c ≡ true → before S a c ≡ true
+  before-same : (a b c : Line) → same-place a b ≡ true → before b c ≡ true → before a c ≡ true
   before-same a b c h k = grind (arith, tells)
 
-  ordered-with-line : (a : Line) (g : Ground) → Ordered S g → Ordered S (with-line S a g)
+  ordered-with-line : (a : Line) (g : Ground) → Ordered g → Ordered (with-line S a g)
   ordered-with-line a [] h = (tt, tt)
   ordered-with-line a (b ∷ g) h =
-      cond-both (before S a b) (a ∷ b ∷ g) _ (Ordered S)
-      (λ e. ((e, all-weaker (λ c. before S b c ≡ true) (λ c. before S a c ≡ true) (λ c. before-trans a b c e) g (h .0)), h))
-      (λ e. cond-both (same-place S a b) (kept S a b ∷ g) _ (Ordered S)
-      (λ d. (cond-both (S .joining (a .row) .worse (a .constant) (b .constant)) b a (λ x. All (λ c. before S x c ≡ true) g) (λ _. h .0) (λ _. all-weaker (λ c. before S b c ≡ true) (λ c. before S a c ≡ true) (λ c. before-same a b c d) g (h .0)), h .1))
-      (λ d. (with-line-all S (λ c. before S b c ≡ true) a g (before-back a b e d) (h .0), ordered-with-line a g (h .1))))
+      cond-both (before a b) (a ∷ b ∷ g) _ (Ordered)
+      (λ e. ((e, all-weaker (λ c. before b c ≡ true) (λ c. before a c ≡ true) (λ c. before-trans a b c e) g (h .0)), h))
+      (λ e. cond-both (same-place a b) (kept S a b ∷ g) _ (Ordered)
+      (λ d. (cond-both (S .joining (a .row) .worse (a .constant) (b .constant)) b a (λ x. All (λ c. before x c ≡ true) g) (λ _. h .0) (λ _. all-weaker (λ c. before b c ≡ true) (λ c. before a c ≡ true) (λ c. before-same a b c d) g (h .0)), h .1))
+      (λ d. (with-line-all S (λ c. before b c ≡ true) a g (before-back a b e d) (h .0), ordered-with-line a g (h .1))))
 
-  pub ordered-with-lines : (ls : List Line) (g : Ground) → Ordered S g → Ordered S (with-lines S ls g)
+  pub ordered-with-lines : (ls : List Line) (g : Ground) → Ordered g → Ordered (with-lines S ls g)
   ordered-with-lines [] g h = h
   ordered-with-lines (a ∷ ls) g h = ordered-with-lines ls (with-line S a g) (ordered-with-line a g h)
 
   some-with-line : (a : Line) (g : Ground) → 1 ≤ length (with-line S a g)
   some-with-line a [] = omega arith
   some-with-line a (b ∷ g) =
-      cond-both (before S a b) (a ∷ b ∷ g) _ (λ x. 1 ≤ length x)
+      cond-both (before a b) (a ∷ b ∷ g) _ (λ x. 1 ≤ length x)
       (λ e. omega arith)
-      (λ e. cond-both (same-place S a b) (kept S a b ∷ g) _ (λ x. 1 ≤ length x) (λ d. omega arith) (λ d. omega arith))
+      (λ e. cond-both (same-place a b) (kept S a b ∷ g) _ (λ x. 1 ≤ length x) (λ d. omega arith) (λ d. omega arith))
 
   some-with-lines : (ls : List Line) (g : Ground) → 1 ≤ length ls + length g → 1 ≤ length (with-lines S ls g)
   some-with-lines [] g h = omega arith
@@ -94,7 +94,7 @@ module _ (S : Setting) where
           (all-fine-moved t (suc k) (pick (suc k)) small (omega arith) h (fine-lines (pick (suc k)) (here .0 .in-range) (here .1)))
           (up-to-fine k (omega arith) (λ v p q. all v p (omega arith)))
 
-      up-to-ordered : (k : ℕ) → Ordered S (learned-up-to S t pick k)
+      up-to-ordered : (k : ℕ) → Ordered (learned-up-to S t pick k)
       up-to-ordered zero = tt
       up-to-ordered (suc k) = ordered-with-lines (map (moved S t (suc k)) (pick (suc k))) (learned-up-to S t pick k) (up-to-ordered k)
 

@@ -22,10 +22,10 @@ module _ (S : Setting) where
   line r q k = record { row = r; level = q; constant = k }
 
   -- the test whether one line is at the place of another
-  same-row : (a b : Line) → same-place S a b ≡ true → a .row ≡ b .row
+  same-row : (a b : Line) → same-place a b ≡ true → a .row ≡ b .row
   same-row a b h = eqb-true (a .row) (b .row) (and-parts _ _ h .0)
 
-  same-level : (a b : Line) → same-place S a b ≡ true → a .level ≡ b .level
+  same-level : (a b : Line) → same-place a b ≡ true → a .level ≡ b .level
   same-level a b h = eqb-true (a .level) (b .level) (and-parts _ _ h .1)
 
   -- both lines stand at the part-choice s
@@ -47,7 +47,7 @@ module _ (S : Setting) where
     at-place a r q e d = λ i. record { row = e i; level = d i; constant = a .constant }
 
     -- the line that is kept of two stands only where both do
-    kept-gives : (a b : Line) → Known a → same-place S a b ≡ true → line-stands S L s (kept S a b) ≡ true → (line-stands S L s a ≡ true) × (line-stands S L s b ≡ true)
+    kept-gives : (a b : Line) → Known a → same-place a b ≡ true → line-stands S L s (kept S a b) ≡ true → (line-stands S L s a ≡ true) × (line-stands S L s b ≡ true)
     kept-gives a b k e h =
         let b-is : b ≡ line (a .row) (a .level) (b .constant) = at-place b (a .row) (a .level) (sym (same-row a b e)) (sym (same-level a b e)) in
         split (S .joining (a .row) .worse (a .constant) (b .constant))
@@ -64,11 +64,11 @@ module _ (S : Setting) where
     pub with-line-gives : (a : Line) (g : Ground) → Known a → stands S L s (with-line S a g) ≡ true → (line-stands S L s a ≡ true) × (stands S L s g ≡ true)
     with-line-gives a [] k h = (and-parts _ _ h .0, refl)
     with-line-gives a (b ∷ g) k h =
-        split (before S a b)
+        split (before a b)
         (λ e. and-parts _ _ (subst (λ x. stands S L s x ≡ true) (cond-true _ _ _ e) h))
         (λ e.
         let h₁ = subst (λ x. stands S L s x ≡ true) (cond-false _ _ _ e) h in
-        split (same-place S a b)
+        split (same-place a b)
         (λ d.
         let h₂ = and-parts _ _ (subst (λ x. stands S L s x ≡ true) (cond-true _ _ _ d) h₁) in
         let both = kept-gives a b k d (h₂ .0) in
@@ -90,9 +90,9 @@ module _ (S : Setting) where
     with-line-stands a [] h k = and-from _ _ h refl
     with-line-stands a (b ∷ g) h k =
         let parts = and-parts _ _ k in
-        cond-both (before S a b) (a ∷ b ∷ g) _ (λ x. stands S L s x ≡ true)
+        cond-both (before a b) (a ∷ b ∷ g) _ (λ x. stands S L s x ≡ true)
         (λ e. and-from _ _ h k)
-        (λ e. cond-both (same-place S a b) (kept S a b ∷ g) _ (λ x. stands S L s x ≡ true)
+        (λ e. cond-both (same-place a b) (kept S a b ∷ g) _ (λ x. stands S L s x ≡ true)
         (λ d. and-from _ _ (cond-both (S .joining (a .row) .worse (a .constant) (b .constant)) b a (λ x. line-stands S L s x ≡ true) (λ _. parts .0) (λ _. h)) (parts .1))
         (λ d. and-from _ _ (parts .0) (with-line-stands a g h (parts .1))))
 
@@ -106,9 +106,9 @@ module _ (S : Setting) where
   pub with-line-all : (P : Line → Type 0) (a : Line) (g : Ground) → P a → All P g → All P (with-line S a g)
   with-line-all P a [] h k = (h, tt)
   with-line-all P a (b ∷ g) h k =
-      cond-both (before S a b) (a ∷ b ∷ g) _ (λ x. All P x)
+      cond-both (before a b) (a ∷ b ∷ g) _ (λ x. All P x)
       (λ e. (h, k))
-      (λ e. cond-both (same-place S a b) (kept S a b ∷ g) _ (λ x. All P x)
+      (λ e. cond-both (same-place a b) (kept S a b ∷ g) _ (λ x. All P x)
       (λ d. (cond-both (S .joining (a .row) .worse (a .constant) (b .constant)) b a P (λ _. k .0) (λ _. h), k .1))
       (λ d. (k .0, with-line-all P a g h (k .1))))
 

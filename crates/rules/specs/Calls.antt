@@ -71,6 +71,26 @@ why (ended g) = has-ended
 why full = is-full
 why (stepped τ) = budget-used
 
+-- What a run gives, worked out.
+pub record Ran : Type 0 where
+  pub reason : Why
+  pub made : ℕ
+  pub state : State
+
+abbrev pub one-more : Ran → Ran
+one-more r = record { reason = r .reason; made = suc (r .made); state = r .state }
+
+-- What a call answers, and the job afterwards.
+pub record Reply : Type 0 where
+  pub answer : Answer
+  pub job : Job
+
+abbrev pub replied : Answer → Job → Reply
+replied a j = record { answer = a; job = j }
+
+abbrev pub run-reply : Limits → Ran → Reply
+run-reply L r = replied (ran (r .reason) (r .made)) (running L (r .state))
+
 module _ (S : Setting) where
   -- A run of so many steps from one state to another, with a budget, and why it stopped: fewer steps than the budget only if the search has ended or is full.
   pub record Run (L : Limits) (budget : ℕ) (σ : State) (reason : Why) (made : ℕ) (τ : State) : Type 0 where
@@ -111,15 +131,6 @@ module _ (S : Setting) where
     -- close gives the verdict on what the search has come to, and keeps its learned grounds
     closes : {L : Limits} {σ : State} (outcome : Outcome) → Named S L σ outcome → Does (running L σ) close taken (closed L (σ .learned) (Some (verdict σ outcome)))
 
-  -- What a run gives, worked out.
-  pub record Ran : Type 0 where
-    pub reason : Why
-    pub made : ℕ
-    pub state : State
-
-  abbrev pub one-more : Ran → Ran
-  one-more r = record { reason = r .reason; made = suc (r .made); state = r .state }
-
   -- A run of at most so many steps, worked out step by step.
   abbrev pub run-from : Limits → ℕ → State → Ran
   run-from L zero σ = record { reason = why (next S L σ); made = 0; state = σ }
@@ -129,17 +140,6 @@ module _ (S : Setting) where
         | full ↦ record { reason = is-full; made = 0; state = σ }
         | stepped τ ↦ one-more (run-from L budget τ)
       ]
-
-  -- What a call answers, and the job afterwards.
-  pub record Reply : Type 0 where
-    pub answer : Answer
-    pub job : Job
-
-  abbrev pub replied : Answer → Job → Reply
-  replied a j = record { answer = a; job = j }
-
-  abbrev pub run-reply : Limits → Ran → Reply
-  run-reply L r = replied (ran (r .reason) (r .made)) (running L (r .state))
 
   -- What a call answers and how it leaves the job, worked out.
   unfoldable pub reply : Job → Call → Reply

@@ -40,6 +40,24 @@ Part = List ℕ
 abbrev pub Ground : Type 0
 Ground = List Line
 
+-- The order of lines in a ground: by row, and then by level.
+abbrev pub before : Line → Line → Bool
+before a b = ltb (a .row) (b .row) || (eqb (a .row) (b .row) && ltb (a .level) (b .level))
+
+-- Two lines have equal row and level.
+abbrev pub same-place : Line → Line → Bool
+same-place a b = eqb (a .row) (b .row) && eqb (a .level) (b .level)
+
+-- Each line comes before all later ones.
+abbrev pub Ordered : Ground → Type 0
+Ordered [] = Unit {0}
+Ordered (a ∷ g) = All (λ b. before a b ≡ true) g × Ordered g
+
+-- The lines of the ground that was found, if one was.
+abbrev pub ground-in : Option Ground → Ground
+ground-in None = []
+ground-in (Some g) = g
+
 module _ (S : Setting) where
   -- How many places are open; the last of them is the place that is set next.
   abbrev pub open-places : Part → ℕ
@@ -107,13 +125,6 @@ module _ (S : Setting) where
       (record { row = l .row; level = open-places t; constant = with-amount (l .row) (open-places t) v (l .constant) })
       l
 
-  -- The order of lines in a ground: by row, and then by level.
-  abbrev pub before : Line → Line → Bool
-  before a b = ltb (a .row) (b .row) || (eqb (a .row) (b .row) && ltb (a .level) (b .level))
-
-  abbrev pub same-place : Line → Line → Bool
-  same-place a b = eqb (a .row) (b .row) && eqb (a .level) (b .level)
-
   -- Of two lines with equal row and level, the one whose constant isn't worse.
   abbrev pub kept : Line → Line → Line
   kept a b = cond (S .joining (a .row) .worse (a .constant) (b .constant)) b a
@@ -137,10 +148,6 @@ module _ (S : Setting) where
   unfoldable pub learn-from : Part → (ℕ → Ground) → Ground
   learn-from t pick = learned-up-to t pick (S .versions (open-places t))
 
-  abbrev pub ground-in : Option Ground → Ground
-  ground-in None = []
-  ground-in (Some g) = g
-
   -- The ground that is learned there: with each version set, from the first ground that stands.
   abbrev pub learn : Limits → List Ground → Part → Ground
   learn L gs t = learn-from t (λ v. ground-in (first-standing L gs (v ∷ t)))
@@ -149,11 +156,6 @@ module _ (S : Setting) where
   pub data Learnable : Ground → Type 0 where
     from-row : (r : ℕ) → r ≤ S .last-row → Learnable (of-row r)
     by-learning : (t : Part) (pick : ℕ → Ground) → length t < S .places → ((v : ℕ) → 1 ≤ v → v ≤ S .versions (open-places t) → Learnable (pick v)) → Learnable (learn-from t pick)
-
-  -- Each line comes before all later ones.
-  abbrev pub Ordered : Ground → Type 0
-  Ordered [] = Unit {0}
-  Ordered (a ∷ g) = All (λ b. before a b ≡ true) g × Ordered g
 
   -- One or more lines, by row and then level, with no row and level twice, of rows and levels that there are.
   pub record Well-formed (g : Ground) : Type 0 where

@@ -95,7 +95,7 @@ module _ (S : Setting) where
   began-with opened = []
   began-with (called {j = j} {c = c} {a = a} h d) = grounds-after a j c (began-with h)
 
-  -- A run with this budget, which left the job so, made as many steps as its budget, or fewer and the search has ended or is full.
+  -- A run that made k steps and left the job so made as many as its budget, or fewer and the search has ended or is full.
   abbrev pub Run-kept : ℕ → Call → Job → Type 0
   Run-kept k (run (pos b)) (running L σ) = (k ≡ b) ⊎ ((k < b) × (((g : Ground) × Ended S L σ g) ⊎ Full S L σ))
   Run-kept k (run (pos b)) (closed L gs v) = ⊥

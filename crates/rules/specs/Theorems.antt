@@ -51,7 +51,7 @@ Replaces S l k = (l .row ≡ k .row) × (l .level ≡ k .level) × (S .joining (
 
 -- What a ground has in it that is learned after t from a ground for each version there: the moved lines of those grounds, and of two at one place the one whose constant isn't worse.
 pub record Learned (S : Setting) (t : Part) (pick : ℕ → Ground) (g : Ground) : Type 0 where
-  pub ordered : Ordered S g
+  pub ordered : Ordered g
   pub taken-over : All (λ l. (v : ℕ) × (1 ≤ v) × (v ≤ S .versions (open-places S t)) × Any (λ k. l ≡ moved S t v k) (pick v)) g
   pub replaced : (v : ℕ) → 1 ≤ v → v ≤ S .versions (open-places S t) → All (λ k. Any (λ l. Replaces S l (moved S t v k)) g) (pick v)
 
