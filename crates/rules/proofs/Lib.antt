@@ -20,6 +20,7 @@ pub mod ByPlace
 pub mod Counts
 pub mod ClosingShapes
 pub mod Rights
+pub mod TestLists
 pub mod OpeningTests
 pub mod Asked
 pub mod Works

@@ -4,6 +4,14 @@ ghost use Rattle.rules.specs.Refusals.{refusal-number, refusal-layer};
 
 #[derive(Clone, Copy)]
 pub enum Refusal {
+    // The file is longer than a file may be.
+    FileTooLong,
+    // A field ends before its head or its body does.
+    FieldCut,
+    // A tag isn't allowed where it stands, or the file ends before its order field.
+    TagNotAllowed,
+    // The length of a field isn't that of its tag.
+    WrongLength,
     // A call record has a code that there isn't, or a part that its code doesn't use isn't 0.
     NoCall,
     // The sheet has no place or too many, or too many rows.
@@ -14,6 +22,10 @@ pub enum Refusal {
     LimitBeyond,
     // The order doesn't list each place once.
     OrderNotOnce,
+    // A place comes out of turn, or lies above the number of places.
+    PlaceOutOfTurn,
+    // A place has one version too many, or a ladder none or too many.
+    VersionsOutside,
     // The catalogue has other counts of places or rows than the sheet.
     CountsDiffer,
     // An amount lies too far from 0.
@@ -32,11 +44,17 @@ impl Refusal {
         ensures { λ r. ⌜ r ≡ refusal-number self ⌝ }
     {
         match self {
+            Refusal::FileTooLong => 1,
+            Refusal::FieldCut => 2,
+            Refusal::TagNotAllowed => 3,
+            Refusal::WrongLength => 4,
             Refusal::NoCall => 5,
             Refusal::CountOutside => 6,
             Refusal::UnknownKind => 7,
             Refusal::LimitBeyond => 8,
             Refusal::OrderNotOnce => 9,
+            Refusal::PlaceOutOfTurn => 10,
+            Refusal::VersionsOutside => 11,
             Refusal::CountsDiffer => 12,
             Refusal::AmountBeyond => 13,
             Refusal::NotInThisState => 14,
@@ -49,14 +67,11 @@ impl Refusal {
     pub fn layer(self) -> u8
         ensures { λ r. ⌜ r ≡ refusal-layer self ⌝ }
     {
-        match self {
-            Refusal::NoCall => 1,
-            Refusal::CountOutside
-            | Refusal::UnknownKind
-            | Refusal::LimitBeyond
-            | Refusal::OrderNotOnce => 2,
-            Refusal::CountsDiffer | Refusal::AmountBeyond => 3,
-            Refusal::NotInThisState | Refusal::NoSuchRow | Refusal::BudgetBeyond => 4,
+        match self.number() {
+            0..=5 => 1,
+            6..=9 => 2,
+            10..=13 => 3,
+            _ => 4,
         }
     }
 }

@@ -1,0 +1,9 @@
+pub mod Codec
+pub mod Decoding
+pub mod FieldReads
+pub mod FileRuns
+pub mod AmountTests
+pub mod Fronts
+pub mod Moves
+pub mod Written
+pub mod ReadLaw

@@ -1,0 +1,6 @@
+pub mod Bounds
+pub mod Stated
+pub mod Writing
+pub mod Validity
+pub mod Reading
+pub mod Theorems

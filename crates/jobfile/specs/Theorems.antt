@@ -1,0 +1,13 @@
+-- The theorems on job files. Assumes nothing.
+use mathlib.Core.Path.{_≡_}
+use mathlib.Core.List.{List}
+use Prim.Native.Nat.{ℕ, _^_, _<_}
+use Rattle.std.specs.declared.result.Result.the-variants.{Ok}
+use Rattle.std.specs.shelf.Lists.{All}
+use Rattle.jobfile.specs.Stated.{Stated}
+use Rattle.jobfile.specs.Validity.{States}
+use Rattle.jobfile.specs.Reading.{read}
+
+-- A file is accepted as a job exactly when it states that job.
+abbrev pub Read-law : Type 0
+Read-law = (bs : List ℕ) → All (λ b. b < 2 ^ 8) bs → (j : Stated) → (read bs ≡ Ok j → States bs j) × (States bs j → read bs ≡ Ok j)

@@ -1,0 +1,7 @@
+// Job files: what a file states, how that is written, and how it is read.
+mod fields;
+mod laws;
+
+pub use fields::Field;
+pub use fields::Section;
+pub use laws::read_law;
