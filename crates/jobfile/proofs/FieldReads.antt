@@ -118,6 +118,28 @@ module _ (at : ℕ) (s : Reading) (a b c : ℕ) (tail : List ℕ) (small : Bytes
       let more : 3 + len ≡ suc (suc (suc len)) = omega arith in
       ap (λ n. take n (a ∷ (b ∷ (c ∷ tail)))) more ∙ ap₂ _∷_ x (ap₂ _∷_ y (ap₂ _∷_ z (sym i)))
 
+  -- a field of the right length whose body isn't cut is the writing of what its body says
+  pub record Says (p : Announced) : Type 0 where
+    pub kind : field-of (decode (s .job) (p .field) (take len tail)) ≡ p .field
+    pub tag : a ≡ tag-of (field-of (decode (s .job) (p .field) (take len tail)))
+    pub fit : length (take len tail) ≡ field-length (s .job) (p .field)
+    pub bytes : Bytes (take len tail)
+    pub full : length (body (decode (s .job) (p .field) (take len tail))) ≡ len
+    pub written : take (3 + len) (a ∷ (b ∷ (c ∷ tail))) ≡ field-bytes (decode (s .job) (p .field) (take len tail))
+
+  pub says : (p : Announced) → announced (s .job) (s .section) a ≡ Some p → len ≡ field-length (s .job) (p .field) → len ≤ length tail → Says p
+  says p said fit long =
+      let e : Entry = decode (s .job) (p .field) (take len tail) in
+      let cut : length (take len tail) ≡ len = length-take len tail ∙ omega (arith, long) in
+      let small-body : Bytes (take len tail) = all-take (λ x. x < 2 ^ 8) len tail (small .1 .1 .1) in
+      let is : body e ≡ take len tail = body-decoded (s .job) (p .field) (take len tail) small-body (cut ∙ fit) in
+      let whole : length (body e) ≡ len = ap length is ∙ cut in
+      let same : field-of e ≡ p .field = field-decoded (s .job) (p .field) (take len tail) in
+      let its-tag : a ≡ tag-of (field-of e) = announced-tag a p (s .job) (s .section) said ∙ ap tag-of (sym same) in
+      let high : b ≡ length (body e) / 256 = omega (arith, whole, small .1 .1 .0) in
+      let low : c ≡ length (body e) % 256 = omega (arith, whole, small .1 .1 .0) in
+      record { kind = same; tag = its-tag; fit = cut ∙ fit; bytes = small-body; full = whole; written = front e its-tag high low is }
+
   rest-read : (p : Announced) (r : Field-read) → announced (s .job) (s .section) a ≡ Some p → read-rest (s .job) p len tail at ≡ Ok r → Read-as at s (a ∷ (b ∷ (c ∷ tail))) (r .size) (r .reading)
   rest-read p r said h =
       let x = passed-cond (eqb len (field-length (s .job) (p .field))) _ _ h in
@@ -125,28 +147,20 @@ module _ (at : ℕ) (s : Reading) (a b c : ℕ) (tail : List ℕ) (small : Bytes
       let e : Entry = decode (s .job) (p .field) (take len tail) in
       let o = passed-tests (first-fault (content-tests (s .job) e at)) (record { size = 3 + len; reading = record { section = p .section; job = with-entry (s .job) e } }) r (y .1) in
       let long : len ≤ length tail = leb-true _ _ (y .0) in
-      let cut : length (take len tail) ≡ len = length-take len tail ∙ omega (arith, long) in
-      let fit : len ≡ field-length (s .job) (p .field) = eqb-true _ _ (x .0) in
-      let bytes : Bytes (take len tail) = all-take (λ x. x < 2 ^ 8) len tail (small .1 .1 .1) in
-      let is : body e ≡ take len tail = body-decoded (s .job) (p .field) (take len tail) bytes (cut ∙ fit) in
-      let full : length (body e) ≡ len = ap length is ∙ cut in
-      let kind : field-of e ≡ p .field = field-decoded (s .job) (p .field) (take len tail) in
-      let tag : a ≡ tag-of (field-of e) = announced-tag a p (s .job) (s .section) said ∙ ap tag-of (sym kind) in
+      let w = says p said (eqb-true _ _ (x .0)) long in
       let after = o .1 in
       let count : r .size ≡ 3 + len = sym (ap (λ x. x .size) after) in
-      let high : b ≡ length (body e) / 256 = omega (arith, full, small .1 .1 .0) in
-      let low : c ≡ length (body e) % 256 = omega (arith, full, small .1 .1 .0) in
       record {
         entry = e;
         takes = record {
-          said = ap (announced (s .job) (s .section)) (sym tag) ∙ said ∙ ap₂ next (sym kind) (ap (λ x. x .reading .section) after);
-          shaped = shaped-decoded (s .job) (p .field) (take len tail) (cut ∙ fit);
-          fits = fits-decoded (s .job) (p .field) (take len tail) bytes;
+          said = ap (announced (s .job) (s .section)) (sym (w .tag)) ∙ said ∙ ap₂ next (sym (w .kind)) (ap (λ x. x .reading .section) after);
+          shaped = shaped-decoded (s .job) (p .field) (take len tail) (w .fit);
+          fits = fits-decoded (s .job) (p .field) (take len tail) (w .bytes);
           passes = all-passed (content-tests (s .job) e at) (o .0);
           adds = sym (ap (λ x. x .reading .job) after);
         };
-        written = ap (λ n. take n (a ∷ (b ∷ (c ∷ tail)))) count ∙ front e tag high low is;
-        size = omega (arith, count, full);
+        written = ap (λ n. take n (a ∷ (b ∷ (c ∷ tail)))) count ∙ w .written;
+        size = omega (arith, count, w .full);
         within = omega (arith, count, long);
       }
 

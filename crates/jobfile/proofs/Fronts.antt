@@ -14,10 +14,9 @@ use Rattle.std.specs.shelf.Lists.{All}
 use Rattle.std.proofs.shelf.Elements.{all-append, all-take, all-from-getD}
 use Rattle.std.proofs.shelf.Lists.{take-append-drop, take-all, getD-past, drop-all, drop-more}
 use Rattle.std.proofs.shelf.Tests.{and-parts, eqb-true, leb-true, ltb-true, cases-lt}
-use Rattle.rules.specs.Bounds.{most-places, greatest-row, most-versions, greatest-amount, greatest-limit}
+use Rattle.rules.specs.Bounds.{most-versions, greatest-amount}
 use Rattle.rules.specs.declared.refusals.Refusal.the-variants.{AmountBeyond}
 use Rattle.rules.specs.Refusals.{fault-in}
-use Rattle.rules.specs.Sheets.{Each-once}
 use Rattle.rules.specs.Catalogues.{rung}
 use Rattle.rules.specs.Calls.{Call}
 use Rattle.rules.specs.Records.{asked, request-of}
@@ -25,56 +24,15 @@ use Rattle.rules.proofs.Bools.{clash}
 use Rattle.rules.specs.declared.records.Request.{Request}
 use Rattle.rules.proofs.TestLists.{Passed, test-passed, each-at}
 use Rattle.rules.proofs.Asked.{Fits as Asks, asked-fits}
-use Rattle.jobfile.specs.declared.fields.Section.{Section}
 use Rattle.jobfile.specs.declared.fields.Section.the-variants as section
 use Rattle.jobfile.specs.Bounds.{most-calls}
 use Rattle.jobfile.specs.Stated.{Ladder-stated, Place-stated, Stated}
 use Rattle.jobfile.specs.Writing.{Entry, row, order, version, ladder, call, version-entries, listed-entries, ladder-entries, early-entries, entries}
-use Rattle.jobfile.specs.Validity.{Valid-row, Valid-version, Valid-place, Valid-ladder, Valid-call}
+use Rattle.jobfile.specs.Validity.{Valid-version, Valid-place, Valid-ladder, Valid-call}
 use Rattle.jobfile.specs.Reading.{held, amount-tests, content-tests, with-entry, no-rung, ladder-amount}
+use Rattle.jobfile.specs.Refusing.{Late}
 use Rattle.jobfile.proofs.Decoding.{Fits}
 use Rattle.jobfile.proofs.AmountTests.{amounts-within}
-
--- the counts and the cap of a sheet
-pub record Counts-good (j : Stated) : Type 0 where
-  pub some-place : 1 ≤ j .places
-  pub few-places : j .places ≤ most-places
-  pub few-rows : j .last-row ≤ greatest-row
-  pub cap : natAbs (j .cap) ≤ greatest-limit
-
--- up to the rows
-pub record Early (j : Stated) : Type 0 where
-  pub counts : Counts-good j
-  pub row-count : length (j .rows) ≤ j .last-row
-  pub rows : All Valid-row (j .rows)
-
--- from the order on
-pub record Late (j : Stated) : Type 0 where
-  pub counts : Counts-good j
-  pub row-count : length (j .rows) ≡ j .last-row
-  pub rows : All Valid-row (j .rows)
-  pub order : Each-once (j .places) (j .order)
-  pub place-count : length (j .listed) + length (j .ladders) ≤ j .places
-  pub listed : All (Valid-place (j .last-row)) (j .listed)
-  pub ladders : All (Valid-ladder (j .last-row)) (j .ladders)
-  pub few-calls : length (j .calls) ≤ most-calls
-  pub calls : All Valid-call (j .calls)
-
--- the front of a valid job, by section
-abbrev pub Front : Section → Stated → Type 0
-Front section.Start j = Unit {0}
-Front section.Rows j = Early j
-Front section.Versions j = Late j × (j .ladders ≡ []) × (j .calls ≡ [])
-Front section.Ladders j = Late j × (j .calls ≡ [])
-Front section.Calls j = Late j
-
--- the fields of that front
-abbrev pub so-far : Section → Stated → List Entry
-so-far section.Start j = []
-so-far section.Rows j = early-entries j
-so-far section.Versions j = entries j
-so-far section.Ladders j = entries j
-so-far section.Calls j = entries j
 
 pub map-push : {X Y : Type 0} (f : X → Y) (xs : List X) (x : X) → map f (xs ++ (x ∷ [])) ≡ map f xs ++ (f x ∷ [])
 map-push f [] x = refl

@@ -7,3 +7,4 @@ pub mod Fronts
 pub mod Moves
 pub mod Written
 pub mod ReadLaw
+pub mod RefusedFiles

@@ -23,7 +23,8 @@ use Rattle.jobfile.specs.Reading.{Reading, Announced, next, announced, content
 use Rattle.jobfile.proofs.Decoding.{Shaped, Fits}
 use Rattle.jobfile.proofs.FieldReads.{Takes}
 use Rattle.jobfile.proofs.FileRuns.{Runs, stop, go}
-use Rattle.jobfile.proofs.Fronts.{Front, so-far, map-push, late-version, entries-version, late-ladder, entries-ladder, late-call, entries-call}
+use Rattle.jobfile.specs.Refusing.{Front, so-far}
+use Rattle.jobfile.proofs.Fronts.{map-push, late-version, entries-version, late-ladder, entries-ladder, late-call, entries-call}
 
 -- the job with one field more is the front of a valid job, and its fields are one more
 abbrev Moved : Section → Stated → Entry → Section → Type 0
@@ -133,7 +134,7 @@ Front-of s = Front (s .section) (s .job)
 abbrev pub fields-of : Reading → List Entry
 fields-of s = so-far (s .section) (s .job)
 
-takes-front : {at : ℕ} (s : Reading) (e : Entry) (t : Reading) → Takes at s e t → Front-of s → Front-of t × (fields-of t ≡ fields-of s ++ (e ∷ []))
+pub takes-front : {at : ℕ} (s : Reading) (e : Entry) (t : Reading) → Takes at s e t → Front-of s → Front-of t × (fields-of t ≡ fields-of s ++ (e ∷ []))
 takes-front {at} s e t k f =
     subst (λ x. Front (t .section) x × (so-far (t .section) x ≡ fields-of s ++ (e ∷ []))) (sym (k .adds))
     (moves (s .job) at (s .section) e (t .section) (k .said) (k .shaped, k .fits, k .passes) f)

@@ -22,7 +22,7 @@ use Rattle.jobfile.specs.Theorems.{Read-law}
 use Rattle.jobfile.proofs.Codec.{Bytes}
 use Rattle.jobfile.proofs.FieldReads.{refused-ok, ok-same, passed-cond}
 use Rattle.jobfile.proofs.FileRuns.{runs-read, passed-then, read-runs}
-use Rattle.jobfile.proofs.Fronts.{Late, Front, so-far}
+use Rattle.jobfile.specs.Refusing.{Late, Front, so-far}
 use Rattle.jobfile.proofs.Moves.{runs-front}
 use Rattle.jobfile.proofs.Written.{section-after, last-section, written-runs}
 
@@ -32,7 +32,7 @@ passed-else : {X : Type 0} {x : X} (b : Bool) (f : Fault) (r : Result X Fault) �
 passed-else true f r e = absurd (refused-ok e)
 passed-else false f r e = (refl, e)
 
-late-front : (c : Section) (j : Stated) → early c ≡ false → Front c j → Late j × (so-far c j ≡ entries j)
+pub late-front : (c : Section) (j : Stated) → early c ≡ false → Front c j → Late j × (so-far c j ≡ entries j)
 late-front section.Start j e f = clash {b = true} refl e
 late-front section.Rows j e f = clash {b = true} refl e
 late-front section.Versions j e f = (f .0, refl)

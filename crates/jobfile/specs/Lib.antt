@@ -3,4 +3,5 @@ pub mod Stated
 pub mod Writing
 pub mod Validity
 pub mod Reading
+pub mod Refusing
 pub mod Theorems

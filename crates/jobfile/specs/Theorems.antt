@@ -2,12 +2,18 @@
 use mathlib.Core.Path.{_≡_}
 use mathlib.Core.List.{List}
 use Prim.Native.Nat.{ℕ, _^_, _<_}
-use Rattle.std.specs.declared.result.Result.the-variants.{Ok}
+use Rattle.std.specs.declared.result.Result.the-variants.{Ok, Err}
 use Rattle.std.specs.shelf.Lists.{All}
+use Rattle.rules.specs.declared.refusals.Fault.{Fault}
 use Rattle.jobfile.specs.Stated.{Stated}
 use Rattle.jobfile.specs.Validity.{States}
 use Rattle.jobfile.specs.Reading.{read}
+use Rattle.jobfile.specs.Refusing.{Refused}
 
 -- A file is accepted as a job exactly when it states that job.
 abbrev pub Read-law : Type 0
 Read-law = (bs : List ℕ) → All (λ b. b < 2 ^ 8) bs → (j : Stated) → (read bs ≡ Ok j → States bs j) × (States bs j → read bs ≡ Ok j)
+
+-- A file that is refused is refused for the reason that its fault names.
+abbrev pub Refused-law : Type 0
+Refused-law = (bs : List ℕ) → All (λ b. b < 2 ^ 8) bs → (f : Fault) → read bs ≡ Err f → Refused bs f

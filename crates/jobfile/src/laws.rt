@@ -1,7 +1,12 @@
 // What is proved of job files.
-ghost use Rattle.jobfile.specs.Theorems.{Read-law};
+ghost use Rattle.jobfile.specs.Theorems.{Read-law, Refused-law};
 
 // A file is accepted as a job exactly when it states that job.
 pub fn read_law()
     ensures { λ _. ⌜ Read-law ⌝ }
+{}
+
+// A file that is refused is refused for the reason that its fault names.
+pub fn refused_law()
+    ensures { λ _. ⌜ Refused-law ⌝ }
 {}

@@ -5,3 +5,4 @@ mod laws;
 pub use fields::Field;
 pub use fields::Section;
 pub use laws::read_law;
+pub use laws::refused_law;
