@@ -8,3 +8,4 @@ pub mod Moves
 pub mod Written
 pub mod ReadLaw
 pub mod RefusedFiles
+pub mod OpensWell

@@ -4,4 +4,5 @@ pub mod Writing
 pub mod Validity
 pub mod Reading
 pub mod Refusing
+pub mod Opened
 pub mod Theorems

@@ -1,5 +1,5 @@
 // What is proved of job files.
-ghost use Rattle.jobfile.specs.Theorems.{Read-law, Refused-law};
+ghost use Rattle.jobfile.specs.Theorems.{Opens-law, Read-law, Refused-law};
 
 // A file is accepted as a job exactly when it states that job.
 pub fn read_law()
@@ -9,4 +9,9 @@ pub fn read_law()
 // A file that is refused is refused for the reason that its fault names.
 pub fn refused_law()
     ensures { λ _. ⌜ Refused-law ⌝ }
+{}
+
+// A job that a file states opens without a fault.
+pub fn opens_law()
+    ensures { λ _. ⌜ Opens-law ⌝ }
 {}

@@ -4,5 +4,6 @@ mod laws;
 
 pub use fields::Field;
 pub use fields::Section;
+pub use laws::opens_law;
 pub use laws::read_law;
 pub use laws::refused_law;
