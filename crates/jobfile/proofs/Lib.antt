@@ -9,3 +9,4 @@ pub mod Written
 pub mod ReadLaw
 pub mod RefusedFiles
 pub mod OpensWell
+pub mod WorkedFiles

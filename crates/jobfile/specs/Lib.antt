@@ -6,3 +6,4 @@ pub mod Reading
 pub mod Refusing
 pub mod Opened
 pub mod Theorems
+pub mod Examples

@@ -1,4 +1,5 @@
 // What is proved of job files.
+ghost use Rattle.jobfile.specs.Examples.{Files-hold};
 ghost use Rattle.jobfile.specs.Theorems.{Opens-law, Read-law, Refused-law};
 
 // A file is accepted as a job exactly when it states that job.
@@ -14,4 +15,9 @@ pub fn refused_law()
 // A job that a file states opens without a fault.
 pub fn opens_law()
     ensures { λ _. ⌜ Opens-law ⌝ }
+{}
+
+// Files are read as the rules say on worked examples.
+pub fn worked_files()
+    ensures { λ _. ⌜ Files-hold ⌝ }
 {}

@@ -7,3 +7,4 @@ pub use fields::Section;
 pub use laws::opens_law;
 pub use laws::read_law;
 pub use laws::refused_law;
+pub use laws::worked_files;
