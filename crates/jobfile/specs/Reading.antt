@@ -12,6 +12,7 @@ use Rattle.std.specs.declared.option.Option.{Option}
 use Rattle.std.specs.declared.option.Option.the-variants.{Some, None}
 use Rattle.std.specs.declared.result.Result.{Result}
 use Rattle.std.specs.declared.result.Result.the-variants.{Ok, Err}
+use Rattle.rules.specs.declared.records.Request.{Request}
 use Rattle.rules.specs.declared.refusals.Fault.{Fault}
 use Rattle.rules.specs.declared.refusals.Refusal.{Refusal}
 use Rattle.rules.specs.declared.refusals.Refusal.the-variants.{FileTooLong, FieldCut, TagNotAllowed, WrongLength, NoCall, CountOutside, UnknownKind, LimitBeyond, OrderNotOnce, PlaceOutOfTurn, VersionsOutside, CountsDiffer, AmountBeyond}
@@ -62,18 +63,20 @@ pub record Announced : Type 0 where
 abbrev pub next : Field → Section → Option Announced
 next f c = Some (record { field = f; section = c })
 
--- What a tag announces in a section; none where the tag isn't allowed.
-abbrev pub announced : Stated → Section → ℕ → Option Announced
-announced j section.Start tag = cond (eqb tag 1) (next field.Sheet section.Rows) None
-announced j section.Rows tag =
-    cond (eqb tag 2 && ltb (length (j .rows)) (j .last-row)) (next field.Row section.Rows)
-    (cond (eqb tag 3 && eqb (length (j .rows)) (j .last-row)) (next field.Order section.Versions) None)
-announced j section.Versions tag =
+-- What a tag announces in a section, with so many rows read of those up to the last; none where the tag isn't allowed.
+abbrev pub announced-with : ℕ → ℕ → Section → ℕ → Option Announced
+announced-with rows m section.Start tag = cond (eqb tag 1) (next field.Sheet section.Rows) None
+announced-with rows m section.Rows tag =
+    cond (eqb tag 2 && ltb rows m) (next field.Row section.Rows) (cond (eqb tag 3 && eqb rows m) (next field.Order section.Versions) None)
+announced-with rows m section.Versions tag =
     cond (eqb tag 4) (next field.Version section.Versions)
     (cond (eqb tag 5) (next field.Ladder section.Ladders) (cond (eqb tag 6) (next field.Call section.Calls) None))
-announced j section.Ladders tag =
+announced-with rows m section.Ladders tag =
     cond (eqb tag 5) (next field.Ladder section.Ladders) (cond (eqb tag 6) (next field.Call section.Calls) None)
-announced j section.Calls tag = cond (eqb tag 6) (next field.Call section.Calls) None
+announced-with rows m section.Calls tag = cond (eqb tag 6) (next field.Call section.Calls) None
+
+abbrev pub announced : Stated → Section → ℕ → Option Announced
+announced j c tag = announced-with (length (j .rows)) (j .last-row) c tag
 
 -- The length of a field's body.
 abbrev pub field-length : Stated → Field → ℕ
@@ -105,9 +108,12 @@ limit-good z = leb (natAbs z) greatest-limit
 abbrev pub amount-good : ℤ → Bool
 amount-good z = leb (natAbs z) greatest-amount
 
--- The tests of each row's amount, from row 0 to the last; amounts are given by row.
+-- The tests of each row's amount, from row 0 to the last one m; amounts are given by row.
+abbrev pub row-amount-tests : ℕ → (ℕ → ℤ) → (ℕ → Fault) → List (Option Fault)
+row-amount-tests m amount bad = each-to (λ k. test (amount-good (amount (k - 1))) (bad (k - 1)) ∷ []) (suc m)
+
 abbrev pub amount-tests : Stated → (ℕ → ℤ) → (ℕ → Fault) → List (Option Fault)
-amount-tests j amount bad = each-to (λ k. test (amount-good (amount (k - 1))) (bad (k - 1)) ∷ []) (suc (j .last-row))
+amount-tests j amount bad = row-amount-tests (j .last-row) amount bad
 
 abbrev pub no-rung : Rung-stated
 no-rung = record { base = pos 0; step = pos 0 }
@@ -116,22 +122,46 @@ no-rung = record { base = pos 0; step = pos 0 }
 abbrev pub ladder-amount : Ladder-stated → ℕ → ℕ → ℤ
 ladder-amount l v r = rung (getD (l .rungs) r no-rung .base) (getD (l .rungs) r no-rung .step) v
 
+-- The tests of a sheet: its counts, and its cap.
+abbrev pub sheet-tests : ℕ → ℕ → ℤ → ℕ → List (Option Fault)
+sheet-tests n m cap at =
+    test (leb 1 n && (leb n most-places && leb m greatest-row)) (fault-in CountOutside at 0 0 0) ∷ test (limit-good cap) (fault-in LimitBeyond at 0 0 0) ∷ []
+
+-- The tests of a row: its kind, and its limit.
+abbrev pub row-tests : ℕ → ℤ → ℕ → List (Option Fault)
+row-tests kind limit at =
+    test (isSome (kind-numbered kind)) (fault-in UnknownKind at 0 0 0) ∷ test (limit-good limit) (fault-in LimitBeyond at 0 0 0) ∷ []
+
+-- The test of an order for n places.
+abbrev pub order-tests : ℕ → List ℕ → ℕ → List (Option Fault)
+order-tests n ps at = test (contains-all n ps) (fault-in OrderNotOnce at 0 0 0) ∷ []
+
+-- The tests of a version of place q, for n places and rows up to m: the place's turn after so many listed places, the room beside the versions it has, and the amounts.
+abbrev pub version-tests : ℕ → ℕ → ℕ → ℕ → ℕ → (ℕ → ℤ) → ℕ → List (Option Fault)
+version-tests n m listed has q amount at =
+    test (leb 1 q && (leb q n && (leb listed q && leb q (suc listed)))) (fault-in PlaceOutOfTurn at 0 0 0)
+    ∷ test (ltb has most-versions) (fault-in VersionsOutside at 0 0 0)
+    ∷ row-amount-tests m amount (λ r. fault-in AmountBeyond at q (suc has) r)
+
+-- The tests of a ladder of place q, for n places and rows up to m: the place's turn after so many places, the count, and the amounts by version and row.
+abbrev pub ladder-tests : ℕ → ℕ → ℕ → ℕ → ℕ → (ℕ → ℕ → ℤ) → ℕ → List (Option Fault)
+ladder-tests n m found q count amount at =
+    test (eqb q (suc found) && leb q n) (fault-in PlaceOutOfTurn at 0 0 0)
+    ∷ test (leb 1 count && leb count most-versions) (fault-in VersionsOutside at 0 0 0)
+    ∷ each-to (λ v. row-amount-tests m (amount v) (λ r. fault-in AmountBeyond at q v r)) count
+
+-- The test of a call after so many calls.
+abbrev pub call-tests : ℕ → Request → ℕ → List (Option Fault)
+call-tests calls r at = test (ltb calls most-calls && isSome (asked r)) (fault-in NoCall at 0 0 0) ∷ []
+
 -- The tests of what a field says, by rising number; the field begins at a byte.
 abbrev pub content-tests : Stated → Entry → ℕ → List (Option Fault)
-content-tests j (sheet n m cap) at =
-    test (leb 1 n && (leb n most-places && leb m greatest-row)) (fault-in CountOutside at 0 0 0) ∷ test (limit-good cap) (fault-in LimitBeyond at 0 0 0) ∷ []
-content-tests j (row r) at =
-    test (isSome (kind-numbered (r .kind))) (fault-in UnknownKind at 0 0 0) ∷ test (limit-good (r .limit)) (fault-in LimitBeyond at 0 0 0) ∷ []
-content-tests j (order ps) at = test (contains-all (j .places) ps) (fault-in OrderNotOnce at 0 0 0) ∷ []
-content-tests j (version q zs) at =
-    test (leb 1 q && (leb q (j .places) && (leb (length (j .listed)) q && leb q (suc (length (j .listed)))))) (fault-in PlaceOutOfTurn at 0 0 0)
-    ∷ test (ltb (length (held j q)) most-versions) (fault-in VersionsOutside at 0 0 0)
-    ∷ amount-tests j (λ r. getD zs r (pos 0)) (λ r. fault-in AmountBeyond at q (suc (length (held j q))) r)
-content-tests j (ladder q l) at =
-    test (eqb q (suc (length (j .listed) + length (j .ladders))) && leb q (j .places)) (fault-in PlaceOutOfTurn at 0 0 0)
-    ∷ test (leb 1 (l .count) && leb (l .count) most-versions) (fault-in VersionsOutside at 0 0 0)
-    ∷ each-to (λ v. amount-tests j (ladder-amount l v) (λ r. fault-in AmountBeyond at q v r)) (l .count)
-content-tests j (call r) at = test (ltb (length (j .calls)) most-calls && isSome (asked r)) (fault-in NoCall at 0 0 0) ∷ []
+content-tests j (sheet n m cap) at = sheet-tests n m cap at
+content-tests j (row r) at = row-tests (r .kind) (r .limit) at
+content-tests j (order ps) at = order-tests (j .places) ps at
+content-tests j (version q zs) at = version-tests (j .places) (j .last-row) (length (j .listed)) (length (held j q)) q (λ r. getD zs r (pos 0)) at
+content-tests j (ladder q l) at = ladder-tests (j .places) (j .last-row) (length (j .listed) + length (j .ladders)) q (l .count) (ladder-amount l) at
+content-tests j (call r) at = call-tests (length (j .calls)) r at
 
 -- The job with what a field adds; a sheet and an order have nothing after them yet.
 abbrev pub with-entry : Stated → Entry → Stated
