@@ -1,7 +1,7 @@
 -- The numbers of the refusals, and the layers that give them. Assumes nothing.
 use Prim.Native.Nat.{ℕ}
 use Rattle.rules.specs.declared.refusals.Refusal.{Refusal}
-use Rattle.rules.specs.declared.refusals.Refusal.the-variants.{FileTooLong, FieldCut, TagNotAllowed, WrongLength, NoCall, CountOutside, UnknownKind, LimitBeyond, OrderNotOnce, PlaceOutOfTurn, VersionsOutside, CountsDiffer, AmountBeyond, NotInThisState, NoSuchRow, BudgetBeyond}
+use Rattle.rules.specs.declared.refusals.Refusal.the-variants.{FileTooLong, FieldCut, TagNotAllowed, WrongLength, NoCall, CountOutside, UnknownKind, LimitBeyond, OrderNotOnce, PlaceOutOfTurn, VersionsOutside, CountsDiffer, AmountBeyond, NotInThisState, NoSuchRow, BudgetBeyond, BufferTooShort}
 use Rattle.rules.specs.declared.refusals.Fault.{Fault}
 
 -- The number by which a refusal is told.
@@ -22,6 +22,7 @@ refusal-number AmountBeyond = 13
 refusal-number NotInThisState = 14
 refusal-number NoSuchRow = 15
 refusal-number BudgetBeyond = 16
+refusal-number BufferTooShort = 17
 
 -- The layer that tests for it: 1 the file, 2 the sheet, 3 the catalogue, 4 the job.
 abbrev pub refusal-layer : Refusal → ℕ
@@ -41,6 +42,7 @@ refusal-layer AmountBeyond = 3
 refusal-layer NotInThisState = 4
 refusal-layer NoSuchRow = 4
 refusal-layer BudgetBeyond = 4
+refusal-layer BufferTooShort = 4
 
 -- A fault that was met at a byte of a file, and at a place, version and row of the catalogue.
 abbrev pub fault-in : Refusal → ℕ → ℕ → ℕ → ℕ → Fault

@@ -36,6 +36,8 @@ pub enum Refusal {
     NoSuchRow,
     // A budget lies outside, or would take the search past the most steps.
     BudgetBeyond,
+    // A lent buffer is shorter than what is written into it may be.
+    BufferTooShort,
 }
 
 impl Refusal {
@@ -60,6 +62,7 @@ impl Refusal {
             Refusal::NotInThisState => 14,
             Refusal::NoSuchRow => 15,
             Refusal::BudgetBeyond => 16,
+            Refusal::BufferTooShort => 17,
         }
     }
 
