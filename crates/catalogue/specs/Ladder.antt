@@ -27,7 +27,7 @@ place-at places q = getD places (q - 1) no-place
 abbrev pub rung-at : List LadderPlace → ℕ → ℕ → Rung
 rung-at places row q = getD (place-at places q .rungs) row no-rung
 
--- A ladder can have so many rows.
+-- A ladder, and a listing, can have so many rows.
 abbrev pub allowed-rows : ℕ → Bool
 allowed-rows rows = leb 1 rows && leb rows most-rows
 
@@ -39,7 +39,7 @@ has-room filled count = ltb filled most-places && (leb 1 count && leb count most
 abbrev pub with-place : ℕ → List LadderPlace → ℕ → List Rung → List LadderPlace
 with-place filled places count rungs = set places filled (record { count = count; rungs = rungs })
 
--- What a ladder keeps of its counts: it has a row, and no more rows and places than there may be.
+-- What a ladder, and a listing, keeps of its counts: it has a row, and no more rows and places than there may be.
 abbrev pub Counted : ℕ → ℕ → Type 0
 Counted rows filled = (1 ≤ rows) × (rows ≤ most-rows) × (filled ≤ most-places)
 

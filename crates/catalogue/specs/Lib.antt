@@ -1,3 +1,4 @@
 pub mod Ladder
+pub mod Listed
 pub mod Beside
 pub mod Sounds

@@ -2,7 +2,7 @@
 use mathlib.Core.Path.{_≡_, refl}
 use mathlib.Core.Logic.{⊎-elim}
 use mathlib.Core.List.{List}
-use Prim.Native.Nat.{ℕ, zero, suc, _-_, _*_, _^_, _≤_, _<_}
+use Prim.Native.Nat.{ℕ, zero, suc, _+_, _-_, _*_, _^_, _≤_, _<_}
 use native.Mathlib.Nat.{mul-le-mul}
 use native.Mathlib.Omega.{arith}
 use borrow.Author.Differences.{ints}
@@ -13,8 +13,11 @@ use Rattle.rules.specs.Bounds.{most-versions, amount-reach}
 use Rattle.rules.specs.Catalogues.{Meaning, Sound-meaning, rung}
 use Rattle.catalogue.specs.Beside.{besides}
 use Rattle.catalogue.specs.Ladder.{Counted, Each-counted, ladder-meaning, rung-at}
+use Rattle.rules.specs.Numbers.{number-at}
+use Rattle.catalogue.specs.Listed.{Bytes, Each-listed, amount-start, listed-at, listed-meaning}
 use Rattle.catalogue.specs.declared.rung.Rung.{Rung}
 use Rattle.catalogue.specs.declared.ladder.LadderPlace.{LadderPlace}
+use Rattle.catalogue.specs.declared.listed.ListedPlace.{ListedPlace}
 
 module _ (a b : Meaning) (s : Sound-meaning a) (t : Sound-meaning b) where
   -- What holds of the versions at each place of both meanings holds of them side by side.
@@ -70,4 +73,17 @@ ladder-sound rows filled places counts each = record {
   few-versions = λ q from to. each q from to .1;
   near = λ row q v _ from to _ last.
       let few = each q from to .1 in rung-near (rung-at places row q) v (omega arith);
+}
+
+number-near : (bs : List ℕ) (i : ℕ) → Bytes bs → natAbs (number-at bs i) ≤ amount-reach
+number-near bs i small = omega (arith, ints, small i, small (i + 1), small (i + 2), small (i + 3))
+
+pub listed-sound : (bs : List ℕ) (rows filled : ℕ) (places : List ListedPlace) → Counted rows filled → Each-listed filled places → Bytes bs → Sound-meaning (listed-meaning bs rows filled places)
+listed-sound bs rows filled places counts each small = record {
+  few-places = counts .2;
+  some-row = counts .0;
+  few-rows = counts .1;
+  some-version = λ q from to. each q from to .0;
+  few-versions = λ q from to. each q from to .1;
+  near = λ row q v _ _ _ _ _. number-near bs (amount-start rows (listed-at places q) row v) small;
 }

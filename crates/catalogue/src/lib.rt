@@ -4,12 +4,16 @@ ghost use Rattle.rules.specs.Catalogues.{Meaning, Sound-meaning, versions-told,
 
 mod beside;
 mod ladder;
+mod listed;
 mod rung;
 
 pub use beside::Beside;
 pub use beside::BesideCatalogue;
 pub use ladder::Ladder;
 pub use ladder::LadderCatalogue;
+pub use listed::Listed;
+pub use listed::ListedCatalogue;
+pub use listed::Listing;
 pub use rung::Rung;
 
 // A question alters nothing, and its answer is always the meaning's.

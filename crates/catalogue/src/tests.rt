@@ -89,3 +89,69 @@ fn beside_up_to_the_last_place() -> Result<(), Fail> {
     check_eq(both.amount(2, 16, 1), None)?;
     check_eq(both.amount(1, 17, 1), None)
 }
+
+// Three bytes, and then the fields of two versions of place 1 and one of place 2, with two rows each.
+const FIELDS: &[u8; 39] =
+    b"abc\x04\0\x09\x01\0\0\0\x05\xff\xff\xff\xff\x04\0\x09\x01\x80\0\0\0\x7f\xff\xff\xff\x04\0\x09\x02\x01\x02\x03\x04\xff\xff\xff\0";
+
+// A listing with no place yet.
+fn listing(end: usize, rows: u8) -> Result<Listing, Fail> {
+    let Some(made) = Listing::new(end, rows) else {
+        return Err(Fail::new("no listing has so many rows"));
+    };
+    Ok(made)
+}
+
+#[test]
+fn amounts_in_version_fields() -> Result<(), Fail> {
+    let mut places = listing(FIELDS.len(), 2)?;
+    check(!places.add_version())?;
+    check(places.add_place(3))?;
+    check(places.add_version())?;
+    check(!places.add_place(28))?;
+    check(places.add_place(27))?;
+    check(!places.add_version())?;
+    let made = Listed::new(FIELDS, places);
+    check_eq(made.places(), 2)?;
+    check_eq(made.rows(), 2)?;
+    check_eq(made.versions(0), None)?;
+    check_eq(made.versions(1), Some(2))?;
+    check_eq(made.versions(2), Some(1))?;
+    check_eq(made.versions(3), None)?;
+    check_eq(made.amount(0, 1, 1), Some(5))?;
+    check_eq(made.amount(1, 1, 1), Some(-1))?;
+    check_eq(made.amount(0, 1, 2), Some(i64::from(i32::MIN)))?;
+    check_eq(made.amount(1, 1, 2), Some(i64::from(i32::MAX)))?;
+    check_eq(made.amount(0, 2, 1), Some(16_909_060))?;
+    check_eq(made.amount(1, 2, 1), Some(-256))?;
+    check_eq(made.amount(2, 1, 1), None)?;
+    check_eq(made.amount(0, 0, 1), None)?;
+    check_eq(made.amount(0, 3, 1), None)?;
+    check_eq(made.amount(0, 1, 0), None)?;
+    check_eq(made.amount(0, 2, 2), None)?;
+    let both = Beside::new(made, ladder(2, 1, 10)?);
+    check_eq(both.amount(0, 3, 1), Some(11))
+}
+
+#[test]
+fn listings_refused_at_the_bounds() -> Result<(), Fail> {
+    check(Listing::new(400, 0).is_none())?;
+    check(Listing::new(400, 10).is_none())?;
+    let mut places = listing(400, 1)?;
+    check(!places.add_place(usize::MAX))?;
+    check(places.add_place(0))?;
+    for _ in 1..MOST_VERSIONS {
+        check(places.add_version())?;
+    }
+    check(!places.add_version())?;
+    for _ in 1..MOST_PLACES {
+        check(places.add_place(392))?;
+    }
+    check(!places.add_place(0))?;
+    let bytes = [1; 4];
+    let made = Listed::new(&bytes, places);
+    check_eq(made.places(), MOST_PLACES as u8)?;
+    check_eq(made.versions(1), Some(MOST_VERSIONS))?;
+    check_eq(made.versions(16), Some(1))?;
+    check_eq(made.amount(0, 16, 1), Some(0))
+}

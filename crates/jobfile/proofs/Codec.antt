@@ -12,7 +12,8 @@ use mir.ValLaws.{toZ-fits}
 use Rattle.std.proofs.shelf.Elements.{all-drop}
 use Rattle.std.proofs.shelf.Signed.{toZ-ofZ, ofZ-toZ}
 use Rattle.std.specs.shelf.Lists.{All}
-use Rattle.jobfile.specs.Reading.{number-at, numbers-in, rungs-in}
+use Rattle.rules.specs.Numbers.{number-at}
+use Rattle.jobfile.specs.Reading.{numbers-in, rungs-in}
 use Rattle.jobfile.specs.Writing.{four, fours, rung-numbers}
 use Rattle.jobfile.specs.Stated.{Rung-stated}
 

@@ -12,8 +12,9 @@ use Rattle.std.proofs.shelf.Elements.{all-drop}
 use Rattle.jobfile.specs.declared.fields.Field.{Field}
 use Rattle.jobfile.specs.declared.fields.Field.the-variants as field
 use Rattle.jobfile.specs.Stated.{Stated}
+use Rattle.rules.specs.Numbers.{number-at}
 use Rattle.jobfile.specs.Writing.{fours, rung-numbers, Entry, sheet, row, order, version, ladder, call, field-of, singles, numbers, body}
-use Rattle.jobfile.specs.Reading.{number-at, numbers-in, rungs-in, field-length, decode}
+use Rattle.jobfile.specs.Reading.{numbers-in, rungs-in, field-length, decode}
 use Rattle.jobfile.proofs.Codec.{Bytes, number-four, number-drop, fours-back, fours-there, length-fours, length-numbers, rungs-there, rungs-back, length-rungs, length-rung-numbers, number-fits, numbers-fit}
 
 -- an entry has as many numbers as the rows, and an order as many as the places

@@ -5,8 +5,6 @@ use Prim.Native.Nat.{ℕ, zero, suc, _+_, _-_, _*_}
 use lib.IntN.{ℤ, pos, natAbs}
 use lib.Dec.{leb, ltb, eqb}
 use lib.ListN.{length, getD, take, drop}
-use mir.Syntax.{w32}
-use mir.Val.{toZ}
 use Rattle.std.specs.Options.{isSome}
 use Rattle.std.specs.declared.option.Option.{Option}
 use Rattle.std.specs.declared.option.Option.the-variants.{Some, None}
@@ -17,6 +15,7 @@ use Rattle.rules.specs.declared.refusals.Fault.{Fault}
 use Rattle.rules.specs.declared.refusals.Refusal.{Refusal}
 use Rattle.rules.specs.declared.refusals.Refusal.the-variants.{FileTooLong, FieldCut, TagNotAllowed, WrongLength, NoCall, CountOutside, UnknownKind, LimitBeyond, OrderNotOnce, PlaceOutOfTurn, VersionsOutside, CountsDiffer, AmountBeyond}
 use Rattle.rules.specs.Bounds.{most-places, greatest-row, most-versions, greatest-amount, greatest-limit}
+use Rattle.rules.specs.Numbers.{number-at}
 use Rattle.rules.specs.Joinings.{kind-numbered}
 use Rattle.rules.specs.Catalogues.{rung}
 use Rattle.rules.specs.Refusals.{fault-in}
@@ -39,10 +38,6 @@ pub record Reading : Type 0 where
 abbrev pub fresh : Reading
 fresh =
     record { section = section.Start; job = record { places = 0; last-row = 0; cap = pos 0; rows = []; order = []; listed = []; ladders = []; calls = [] } }
-
--- The signed number in the four bytes from a place on.
-abbrev pub number-at : List ℕ → ℕ → ℤ
-number-at bs i = toZ w32 (getD bs i 0 * 16777216 + getD bs (i + 1) 0 * 65536 + getD bs (i + 2) 0 * 256 + getD bs (i + 3) 0)
 
 -- So many numbers, of four bytes each.
 unfoldable pub numbers-in : ℕ → List ℕ → List ℤ

@@ -1,4 +1,5 @@
 pub mod Bounds
+pub mod Numbers
 pub mod Joinings
 pub mod Catalogues
 pub mod Sheets
