@@ -48,10 +48,12 @@ module _ (a b : Meaning) (s : Sound-meaning a) (t : Sound-meaning b) where
     near = besides-near;
   }
 
+-- A number and its opposite are as far from 0.
 abs-neg : (n : ℕ) → natAbs (negℤ (pos n)) ≡ n
 abs-neg zero = refl
 abs-neg (suc n) = refl
 
+-- A multiple lies as many times as far from 0.
 abs-times : (k : ℕ) (z : ℤ) → natAbs (pos k *ℤ z) ≡ k * natAbs z
 abs-times k (pos n) = refl
 abs-times k (negsuc n) = abs-neg (k * suc n)
@@ -61,9 +63,11 @@ pub times-near : (k : ℕ) (step : ℤ) → k < 2 ^ 8 → natAbs step ≤ 2 ^ 31
 times-near k step small near =
     let few : k ≤ 2 ^ 8 = omega arith in let m = mul-le-mul few near in omega (arith, abs-times k step)
 
+-- An amount of a ladder lies within reach.
 rung-near : (g : Rung) (v : ℕ) → v < 2 ^ 8 → natAbs (rung (g .base) (g .step) v) ≤ amount-reach
 rung-near g v small = let climb = times-near (v - 1) (g .step) (omega arith) (g .near .1) in omega (arith, ints, g .near .0)
 
+-- A ladder's meaning keeps the bounds of a catalogue.
 pub ladder-sound : (rows filled : ℕ) (places : List LadderPlace) → Counted rows filled → Each-counted filled places → Sound-meaning (ladder-meaning rows filled places)
 ladder-sound rows filled places counts each = record {
   few-places = counts .2;
@@ -75,9 +79,11 @@ ladder-sound rows filled places counts each = record {
       let few = each q from to .1 in rung-near (rung-at places row q) v (omega arith);
 }
 
+-- A number in four bytes lies within reach.
 number-near : (bs : List ℕ) (i : ℕ) → Bytes bs → natAbs (number-at bs i) ≤ amount-reach
 number-near bs i small = omega (arith, ints, small i, small (i + 1), small (i + 2), small (i + 3))
 
+-- A listed catalogue's meaning keeps the bounds of a catalogue.
 pub listed-sound : (bs : List ℕ) (rows filled : ℕ) (places : List ListedPlace) → Counted rows filled → Each-listed filled places → Bytes bs → Sound-meaning (listed-meaning bs rows filled places)
 listed-sound bs rows filled places counts each small = record {
   few-places = counts .2;

@@ -55,6 +55,7 @@ pub record Announced : Type 0 where
   pub field : Field
   pub section : Section
 
+-- A field is announced, and a section follows it.
 abbrev pub next : Field → Section → Option Announced
 next f c = Some (record { field = f; section = c })
 
@@ -70,6 +71,7 @@ announced-with rows m section.Ladders tag =
     cond (eqb tag 5) (next field.Ladder section.Ladders) (cond (eqb tag 6) (next field.Call section.Calls) None)
 announced-with rows m section.Calls tag = cond (eqb tag 6) (next field.Call section.Calls) None
 
+-- What a tag announces in a section, after the front of a job.
 abbrev pub announced : Stated → Section → ℕ → Option Announced
 announced j c tag = announced-with (length (j .rows)) (j .last-row) c tag
 
@@ -107,9 +109,11 @@ amount-good z = leb (natAbs z) greatest-amount
 abbrev pub row-amount-tests : ℕ → (ℕ → ℤ) → (ℕ → Fault) → List (Option Fault)
 row-amount-tests m amount bad = each-to (λ k. test (amount-good (amount (k - 1))) (bad (k - 1)) ∷ []) (suc m)
 
+-- The same for the rows of a job.
 abbrev pub amount-tests : Stated → (ℕ → ℤ) → (ℕ → Fault) → List (Option Fault)
 amount-tests j amount bad = row-amount-tests (j .last-row) amount bad
 
+-- The rung of a row that a ladder does not have.
 abbrev pub no-rung : Rung-stated
 no-rung = record { base = pos 0; step = pos 0 }
 

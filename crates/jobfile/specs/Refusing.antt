@@ -69,10 +69,11 @@ pub record First-failing (ts : List (Option Fault)) (f : Fault) : Type 0 where
   pub are : ts ≡ before ++ (Some f ∷ after)
   pub passed : All (λ t. t ≡ None) before
 
--- The tag of a field, and the length that its head gives.
+-- The tag of a field, as its head gives it.
 abbrev pub tag-in : List ℕ → ℕ
 tag-in bs = getD bs 0 0
 
+-- The length of a field's body, as its head gives it.
 abbrev pub length-in : List ℕ → ℕ
 length-in bs = getD bs 1 0 * 256 + getD bs 2 0
 

@@ -15,6 +15,7 @@ use Rattle.jobfile.specs.Stated.{Rung-stated, Ladder-stated, Place-stated, Sta
 abbrev pub four : ℤ → List ℕ
 four z = (ofZ w32 z / 16777216) ∷ ((ofZ w32 z / 65536 % 256) ∷ ((ofZ w32 z / 256 % 256) ∷ ((ofZ w32 z % 256) ∷ [])))
 
+-- Signed numbers, in four bytes each.
 abbrev pub fours : List ℤ → List ℕ
 fours [] = []
 fours (z ∷ zs) = four z ++ fours zs
@@ -33,6 +34,7 @@ pub data Entry : Type 0 where
   ladder : ℕ → Ladder-stated → Entry
   call : Request → Entry
 
+-- The field that says it.
 abbrev pub field-of : Entry → Field
 field-of (sheet n m cap) = field.Sheet
 field-of (row r) = field.Row
@@ -68,6 +70,7 @@ numbers (version q zs) = zs
 numbers (ladder q l) = rung-numbers (l .rungs)
 numbers (call r) = r .number ∷ []
 
+-- The body of the field that says it.
 abbrev pub body : Entry → List ℕ
 body e = singles e ++ fours (numbers e)
 

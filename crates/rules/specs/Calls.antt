@@ -77,6 +77,7 @@ pub record Ran : Type 0 where
   pub made : ℕ
   pub state : State
 
+-- The same run with one step more made before it.
 abbrev pub one-more : Ran → Ran
 one-more r = record { reason = r .reason; made = suc (r .made); state = r .state }
 
@@ -85,9 +86,11 @@ pub record Reply : Type 0 where
   pub answer : Answer
   pub job : Job
 
+-- An answer, with the job afterwards.
 abbrev pub replied : Answer → Job → Reply
 replied a j = record { answer = a; job = j }
 
+-- What a run answers, and the running job that it leaves.
 abbrev pub run-reply : Limits → Ran → Reply
 run-reply L r = replied (ran (r .reason) (r .made)) (running L (r .state))
 

@@ -39,6 +39,7 @@ alarm-amounts =
     ∷ ((negsuc 19 ∷ negsuc 49 ∷ []) ∷ (pos 180 ∷ pos 100 ∷ []) ∷ [])
     ∷ []
 
+-- Two places with two versions each, and these amounts.
 abbrev pub alarm-catalogue : Meaning
 alarm-catalogue =
     record { places = 2; rows = 2; versions = λ q. 2; amount = λ row q v. getD (getD (getD alarm-amounts row []) (q - 1) []) (v - 1) (pos 0) }
@@ -52,9 +53,11 @@ alarm-sheet =
 abbrev pub single-catalogue : Meaning
 single-catalogue = record { places = 1; rows = 1; versions = λ q. 1; amount = λ row q v. pos 5 }
 
+-- One place, and no limit but the cap.
 abbrev pub single-sheet : ℤ → Sheet
 single-sheet cap = record { places = 1; «last_row» = 0; cap = cap; rows = []; order = 1 ∷ [] }
 
+-- A record that asks for a call by its code, row and number, not answered yet.
 abbrev pub asks : ℕ → ℕ → ℤ → CallRecord
 asks code row number = record { request = record { code = code; row = row; number = number }; answer = 0 }
 
@@ -73,12 +76,15 @@ seen-of s (faultless (closed L gs (Some v))) = Some (seen s v)
 abbrev pub verdict-after : Meaning → Sheet → List CallRecord → Value
 verdict-after m s rs = verdict (seen-of s (work-job m s rs))
 
+-- A verdict that says this, with so many steps and learned grounds held.
 abbrev pub seen-as : Told → ℕ → ℕ → Value
 seen-as says steps held = verdict (Some (record { says = says; steps = steps; held = held }))
 
+-- A closing line.
 abbrev pub closing : ℕ → ℤ → ClosingLine
 closing row k = record { row = row; constant = k }
 
+-- A line.
 abbrev pub a-line : ℕ → ℕ → ℤ → Line
 a-line row level k = record { row = row; level = level; constant = k }
 

@@ -42,6 +42,7 @@ each-to f (suc k) = each-to f k ++ f (suc k)
 abbrev pub test : Bool → Fault → Option Fault
 test good f = cond good None (Some f)
 
+-- A number is in a list.
 abbrev pub contains : ℕ → List ℕ → Bool
 contains q [] = false
 contains q (x ∷ xs) = eqb x q || contains q xs
@@ -51,12 +52,15 @@ abbrev pub contains-all : ℕ → List ℕ → Bool
 contains-all zero xs = true
 contains-all (suc q) xs = contains-all q xs && contains (suc q) xs
 
+-- The test of a row's limit; that of row 0 is the cap.
 abbrev pub limit-test : Sheet → ℕ → Option Fault
 limit-test s r = test (leb (natAbs (limit-of s r)) greatest-limit) (fault LimitBeyond)
 
+-- The tests of a row: its kind, and its limit.
 abbrev pub row-tests : Sheet → ℕ → List (Option Fault)
 row-tests s r = test (isSome (kind-numbered (kind-of s r))) (fault UnknownKind) ∷ limit-test s r ∷ []
 
+-- The tests of the amounts of a version of a place, row by row from the price on.
 abbrev pub amount-tests : Meaning → ℕ → ℕ → List (Option Fault)
 amount-tests m q v = each-to (λ k. test (leb (natAbs (m .amount (k - 1) q v)) greatest-amount) (fault-at AmountBeyond q v (k - 1)) ∷ []) (m .rows)
 
@@ -70,6 +74,7 @@ tests m s =
     ∷ test (eqb (m .places) (s .places) && eqb (m .rows) (suc (last-row s))) (fault-at CountsDiffer (m .places) 0 (m .rows))
     ∷ each-to (λ q. each-to (λ v. amount-tests m q v) (m .versions q)) (m .places)))
 
+-- The first fault that tests found.
 abbrev pub first-fault : List (Option Fault) → Option Fault
 first-fault [] = None
 first-fault (Some f ∷ ts) = Some f

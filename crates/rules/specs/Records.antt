@@ -44,6 +44,7 @@ pub data Comes-of : List CallRecord → List Entry → Type 0 where
   called-by : {r : CallRecord} {rs : List CallRecord} {es : List Entry} (c : Call) (a : Answer) → r .request ≡ request-of c → r .answer ≡ answer-number a → Comes-of rs es → Comes-of (r ∷ rs) (record { call = c; answer = a } ∷ es)
   passed-over : {r : CallRecord} {rs : List CallRecord} {es : List Entry} → ((c : Call) → r .request ≡ request-of c → ⊥) → r .answer ≡ refusal-number NoCall → Comes-of rs es → Comes-of (r ∷ rs) es
 
+-- A job is closed.
 abbrev pub Is-closed : Job → Type 0
 Is-closed (closed L gs v) = Unit {0}
 Is-closed (running L σ) = ⊥

@@ -58,6 +58,7 @@ versions-to order c (suc q) = versions-to order c q ++ (version-in order c (suc 
 abbrev pub by-place : Sheet → Part → List ℕ
 by-place s c = versions-to (order-of s) c (s .places)
 
+-- The best choice, if there is one, by place.
 abbrev pub best-by-place : Sheet → Option Part → Option (List ℕ)
 best-by-place s None = None
 best-by-place s (Some c) = Some (by-place s c)
@@ -79,6 +80,7 @@ pub record Seen : Type 0 where
   pub steps : ℕ
   pub held : ℕ
 
+-- What can be read off this verdict.
 abbrev pub seen : Sheet → Verdict → Seen
 seen s v = record { says = told s (v .finding); steps = v .steps; held = v .held }
 

@@ -103,6 +103,7 @@ fn print_version<C: Catalogue>(
     println!(rt, "")
 }
 
+// The amounts of every version, a line each.
 fn print_catalogue<C: Catalogue>(rt: &impl Print, catalogue: &C) -> io::Result<()> {
     for place in 1..=catalogue.places() {
         for version in 1..=catalogue.versions(place).unwrap_or(0) {
@@ -112,6 +113,7 @@ fn print_catalogue<C: Catalogue>(rt: &impl Print, catalogue: &C) -> io::Result<(
     Ok(())
 }
 
+// The least price, and the versions by place.
 fn print_found(rt: &impl Print, places: u8, found: &Found) -> io::Result<()> {
     let price = found.price;
     print!(rt, "LEAST {price}")?;
@@ -136,6 +138,7 @@ fn print_answer<C: Catalogue>(rt: &impl Print, sheet: &Sheet, catalogue: &C) -> 
     }
 }
 
+// The job, and its answers at the two limits on standby.
 fn run(rt: &impl Print) -> Result<(), AnyError> {
     let Some(phone) = one_place(PHONE_PRICE, PHONE_STANDBY) else {
         return Err("no catalogue of the phone".into());
