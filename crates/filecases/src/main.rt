@@ -1,5 +1,6 @@
 // Files of each shape, and for each refusal files that meet it at the edge and neighbours that do not; what each is
 // read as goes to standard output, a line each.
+#![tactic(auto)]
 
 mod drafts;
 mod fields;

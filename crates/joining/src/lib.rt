@@ -1,4 +1,6 @@
 // The joinings: how the amounts of a row come to a total, and which of two totals is worse.
+#![tactic(auto)]
+
 ghost use Rattle.std.specs.Prelude.{◌≡◌};
 ghost use Rattle.rules.specs.Joinings.{Joining as Rule, Laws};
 ghost use Rattle.joining.specs.Held.{held};

@@ -1,4 +1,5 @@
 // The line of a fault, as text in a lent buffer.
+#![tactic(auto)]
 mod faults;
 mod texts;
 

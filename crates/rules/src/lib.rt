@@ -1,5 +1,7 @@
 // The rules of a job, its search and its calls, as definitions in specs/, and what is proved of them.
 // The plain types here are those that the definitions speak of.
+#![tactic(auto)]
+
 mod bounds;
 mod kinds;
 mod laws;

@@ -1,4 +1,5 @@
 // The search for the least choice, by position, over a table of amounts.
+#![tactic(auto)]
 mod closing;
 mod found;
 mod grid;
