@@ -1,5 +1,6 @@
 // The line of a fault, as text in a lent buffer.
 #![tactic(auto)]
+
 mod faults;
 mod texts;
 

@@ -7,7 +7,7 @@ pub returns : goal.returns
 unfolding fault_line
 returns c = record {
   text =
-      puts_then c.put-u8-at.ensures.text (puts_then c.put-u8-at-2.ensures.text (puts_then c.put-u16-at.ensures.text
-      (puts_then c.put-u8-at-3.ensures.text (puts_then c.put-u8-at-4.ensures.text (puts_then c.put-u8-at-5.ensures.text c.put-bytes.ensures)))));
+      puts_then c.put_u8-at.ensures.text (puts_then c.put_u8-at-2.ensures.text (puts_then c.put_u16-at.ensures.text
+      (puts_then c.put_u8-at-3.ensures.text (puts_then c.put_u8-at-4.ensures.text (puts_then c.put_u8-at-5.ensures.text c.put_bytes.ensures)))));
   bound = search rules;
 }

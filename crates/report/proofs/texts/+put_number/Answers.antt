@@ -8,8 +8,8 @@ bounds-out-at t c = search (rules, one_digit)
 pub returns-then-number-lt10 : goal.returns-then-number-lt10
 returns-then-number-lt10 t c = search (rules, puts_digit, one_digit)
 
-pub put-number-last-requires : goal.put-number-last-requires
-put-number-last-requires t c = search (rules, one_more_digit)
+pub put_number-last-requires : goal.put_number-last-requires
+put_number-last-requires t c = search (rules, one_more_digit)
 
 pub bounds-out-last : goal.bounds-out-last
 bounds-out-last t c = search (rules, one_more_digit)
