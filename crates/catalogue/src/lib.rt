@@ -1,5 +1,6 @@
 // Catalogues: the amounts of each row, place and version, behind one trait.
 #![tactic(auto)]
+
 ghost use Rattle.std.specs.Prelude.{◌≡◌};
 ghost use Rattle.rules.specs.Catalogues.{Meaning, SoundMeaning, versions_told, amount_told};
 

@@ -1,7 +1,7 @@
 // The tables of a ledger.
 ghost use Rattle.std.specs.Prelude.{◌≡◌, length};
 ghost use Rattle.rules.specs.Bounds.{most_lines};
-ghost use Rattle.rules.specs.Search.{line_count};
+ghost use Rattle.rules.specs.Search.{line_count as lines_in};
 ghost use Rattle.ledger.specs.Lines.{AllNear};
 ghost use Rattle.ledger.specs.Tables.{Within, grounds_of};
 
@@ -17,7 +17,7 @@ pub struct Ledger {
     line_count: usize,
     ghost within: { Within grounds ground_count line_count },
     ghost listed: { length (grounds_of lines grounds ground_count) ≡ ground_count },
-    ghost counted: { line_count (grounds_of lines grounds ground_count) ≡ line_count },
+    ghost counted: { lines_in (grounds_of lines grounds ground_count) ≡ line_count },
     ghost near: { AllNear lines },
     ghost long: { length lines ≡ most_lines },
 }

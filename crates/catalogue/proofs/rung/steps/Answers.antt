@@ -13,8 +13,8 @@ step c = omega (arith, ints)
 near : (c : goal.After-from-2) → nat_abs (pos c.args.count *ℤ c.args.step) ≤ 2 ^ 8 * 2 ^ 31
 near c = times_near c.args.count c.args.step (omega arith) (omega (arith, ints))
 
-pub overflow-mul-result : goal.overflow-mul-result
-overflow-mul-result c = let k = near c in rw (count c, step c) (omega (arith, ints))
+pub overflow_mul-result : goal.overflow_mul-result
+overflow_mul-result c = let k = near c in rw (count c, step c) (omega (arith, ints))
 
 pub returns : goal.returns
 returns c = let k = near c in rw (count c, step c) (record { is = omega (arith, ints); near = omega (arith, ints) })

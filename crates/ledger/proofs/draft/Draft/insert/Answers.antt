@@ -2,7 +2,7 @@ use Rattle.std.proofs.Common.{ap, ◌∙◌, arith}
 use Rattle.ledger.specs.Places.{rising}
 use Rattle.ledger.proofs.draft.Draft.insert.Goals as goal
 
-pub invariant-of-self : goal.invariant-of-self
-invariant-of-self c =
-    let shifted = c.shift-in.ensures in
-    (omega arith, (shifted.long, (shifted.near, (ap rising shifted.lines ∙ c.requires.ordered, tt))))
+pub invariant_of-self : goal.invariant_of-self
+invariant_of-self c =
+    let shifted = c.shift_in.ensures in
+    record { within = omega arith; long = shifted.long; near = shifted.near; ordered = ap rising shifted.lines ∙ c.requires.ordered }

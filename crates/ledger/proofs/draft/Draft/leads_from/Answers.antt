@@ -21,6 +21,6 @@ returns-else-at-self c =
     let inside : c.args.at < length g = simp length-take (omega arith) in
     let here = get_or-take s.count s.lines c.args.at no_line c.if-at-self.false in
     record {
-      is = c.comes-before.ensures ∙ ap (λ (b : Line). before c.args.line b) (sym here) ∙ sym (leads_there c.args.line g c.args.at inside);
+      is = c.comes_before.ensures ∙ ap (λ (b : Line). before c.args.line b) (sym here) ∙ sym (leads_there c.args.line g c.args.at inside);
       there = λ e. c.if-at-self.false;
     }

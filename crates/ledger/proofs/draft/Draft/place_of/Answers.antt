@@ -6,8 +6,8 @@ use Rattle.ledger.specs.Drafted.{drafted}
 use Rattle.ledger.proofs.Inserts.{place_found, place_more, place_none}
 use Rattle.ledger.proofs.draft.Draft.place_of.Goals as goal
 
-pub returns-then-stops-at : goal.returns-then-stops-at
-returns-then-stops-at c =
+pub returns-then-stops_at : goal.returns-then-stops_at
+returns-then-stops_at c =
     let s = c.args.self.now in
     let g = drafted s in
     let i = c.loop-index.index in

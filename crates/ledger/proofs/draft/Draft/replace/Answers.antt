@@ -4,10 +4,10 @@ use Rattle.ledger.proofs.Nears.{near_set}
 use Rattle.ledger.proofs.Inserts.{take_set_in}
 use Rattle.ledger.proofs.draft.Draft.replace.Goals as goal
 
-pub invariant-of-self : goal.invariant-of-self
-invariant-of-self c =
+pub invariant_of-self : goal.invariant_of-self
+invariant_of-self c =
     let s = c.args.self.now in
-    (s.within, (simp length-set s.long, (near_set s.lines c.args.at c.args.line c.requires.near s.near, (ap rising (take_set_in s.lines s.count c.args.at c.args.line) ∙ c.requires.ordered, tt))))
+    record { within = s.within; long = simp length-set s.long; near = near_set s.lines c.args.at c.args.line c.requires.near s.near; ordered = ap rising (take_set_in s.lines s.count c.args.at c.args.line) ∙ c.requires.ordered }
 
 pub returns : goal.returns
 returns c = let s = c.args.self.now in take_set_in s.lines s.count c.args.at c.args.line

@@ -4,5 +4,5 @@ use Rattle.ledger.proofs.Nears.{near_blank}
 use Rattle.ledger.proofs.Cuts.{blank_ends}
 use Rattle.ledger.proofs.table.Ledger.empty.Goals as goal
 
-pub invariant-of-result : goal.invariant-of-result
-invariant-of-result c = ((omega arith, omega arith, λ k h. blank_ends k), (refl, (refl, (near_blank most_lines, (refl, tt)))))
+pub invariant_of-result : goal.invariant_of-result
+invariant_of-result c = record { within = (omega arith, omega arith, λ k h. blank_ends k); listed = refl; counted = refl; near = near_blank most_lines; long = refl }

@@ -4,14 +4,14 @@ use Rattle.ledger.proofs.Nears.{near_part}
 use Rattle.ledger.proofs.Cuts.{grounds_at}
 use Rattle.ledger.proofs.table.Ledger.lines_at.Goals as goal
 
-pub overflow-add-end : goal.overflow-add-end
-overflow-add-end c = let end = c.args.self.now.within.2 c.args.index c.requires in omega arith
+pub overflow_add-end : goal.overflow_add-end
+overflow_add-end c = let end = c.args.self.now.within.2 c.args.index c.requires in omega arith
 
-pub offset-bounds-self-start : goal.offset-bounds-self-start
-offset-bounds-self-start c = let end = c.args.self.now.within.2 c.args.index c.requires in omega arith
+pub offset_bounds-self-start : goal.offset_bounds-self-start
+offset_bounds-self-start c = let end = c.args.self.now.within.2 c.args.index c.requires in omega arith
 
-pub slice-bounds-result-end : goal.slice-bounds-result-end
-slice-bounds-result-end c = let end = c.args.self.now.within.2 c.args.index c.requires in omega arith
+pub slice_bounds-result-end : goal.slice_bounds-result-end
+slice_bounds-result-end c = let end = c.args.self.now.within.2 c.args.index c.requires in omega arith
 
 pub returns : goal.returns
 returns c =

@@ -4,11 +4,11 @@ use Rattle.ledger.proofs.Nears.{near_set}
 use Rattle.ledger.proofs.Cuts.{grounds_put}
 use Rattle.ledger.proofs.table.Ledger.put_line.Goals as goal
 
-pub invariant-of-self : goal.invariant-of-self
-invariant-of-self c =
+pub invariant_of-self : goal.invariant_of-self
+invariant_of-self c =
     let s = c.args.self.now in
     let same = grounds_put s.lines s.grounds s.ground_count c.args.at c.args.line (λ k h. omega (arith, s.within.2 k h)) in
-    (s.within, (ap length same ∙ s.listed, (ap line_count same ∙ s.counted, (near_set s.lines c.args.at c.args.line c.requires.near s.near, (simp length-set s.long, tt)))))
+    record { within = s.within; listed = ap length same ∙ s.listed; counted = ap line_count same ∙ s.counted; near = near_set s.lines c.args.at c.args.line c.requires.near s.near; long = simp length-set s.long }
 
 pub returns : goal.returns
 returns c =

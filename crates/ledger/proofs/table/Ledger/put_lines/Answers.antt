@@ -4,8 +4,8 @@ use Rattle.rules.specs.declared.lines.Line.{Line}
 use Rattle.ledger.proofs.Cuts.{copied_more}
 use Rattle.ledger.proofs.table.Ledger.put_lines.Goals as goal
 
-pub put-line-requires : goal.put-line-requires
-put-line-requires c = record { place = (omega arith, omega arith); near = c.requires.near c.loop-line.line-index }
+pub put_line-requires : goal.put_line-requires
+put_line-requires c = record { place = (omega arith, omega arith); near = c.requires.near c.loop-line.line-index }
 
 pub loop-line-preserved : goal.loop-line-preserved
 loop-line-preserved c =
@@ -13,7 +13,7 @@ loop-line-preserved c =
     let s = c.loop-line.self in
     let i = c.loop-line.line-index in
     let inv = c.loop-line.invariant in
-    let put = c.put-line.ensures in
+    let put = c.put_line.ensures in
     let long = s.long in
     let copied = copied_more s.lines c.args.ground.now o i c.loop-line.at inv.1 (omega arith) c.loop-line-test.true inv.6 in
     (omega arith, omega arith, put.kept.0 ∙ inv.2, put.kept.1.0 ∙ inv.3, put.kept.1.1 ∙ inv.4, put.held ∙ inv.5, ap (λ (ls : List Line). take (i + 1) (drop o ls)) put.lines ∙ copied)
