@@ -13,6 +13,6 @@ loop-place-preserved g c =
     let near = λ (q : ℕ). amount_near m (g.C.Catalogue.sound c.args.catalogue.now) c.args.row q (version vs q) in
     let more = joined_more g.J.Joining.rule g.met.J.Joining.kept f near c.loop-place.place (omega arith) in
     let out : to_z w64 (of_z w64 c.join-total.result) ≡ c.join-total.result = omega (arith, ints) in
-    let read : to_z w64 (of_z w64 c.amount-in-amount.result) ≡ c.amount-in-amount.result = omega (arith, ints) in
+    let read : to_z w64 (of_z w64 c.amount_in-amount.result) ≡ c.amount_in-amount.result = omega (arith, ints) in
     let at : c.loop-place.place + 1 - 1 ≡ c.from.result = omega arith in
     cc

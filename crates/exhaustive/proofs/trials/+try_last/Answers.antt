@@ -15,6 +15,6 @@ pub returns : goal.returns
 returns g t c =
     let m = guarded (g.C.Catalogue.meaning c.args.catalogue.now) in
     let s = c.args.sheet.now in
-    let all : c.loop-version.version ≡ c.versions-in-version-end.result = omega arith in
+    let all : c.loop-version.version ≡ c.versions_in-version-end.result = omega arith in
     let more = tried_more m s c.args.left c.args.versions (omega arith) (omega arith) in
     cc

@@ -8,9 +8,9 @@ use Rattle.jobfile.proofs.bodies.rungs_in.Goals as goal
 
 pub loop-row-preserved : goal.loop-row-preserved
 loop-row-preserved c =
-    let base : to_z w32 (of_z w32 c.number-at.result) ≡ c.number-at.result = omega (arith, ints) in
-    let step : to_z w32 (of_z w32 c.number-at-in-loop-row.result) ≡ c.number-at-in-loop-row.result = omega (arith, ints) in
-    (length-set _ _ _ ∙ c.loop-row.invariant.0, rungs_more c.args.body.now c.loop-row.rungs c.loop-row.row c.from-index.result _ c.from-index.ensures (omega arith) (base ∙ c.number-at.ensures) (step ∙ c.number-at-in-loop-row.ensures) c.loop-row.invariant.1)
+    let base : to_z w32 (of_z w32 c.number_at.result) ≡ c.number_at.result = omega (arith, ints) in
+    let step : to_z w32 (of_z w32 c.number_at-in-loop-row.result) ≡ c.number_at-in-loop-row.result = omega (arith, ints) in
+    (length-set _ _ _ ∙ c.loop-row.invariant.0, rungs_more c.args.body.now c.loop-row.rungs c.loop-row.row c.from-index.result _ c.from-index.ensures (omega arith) (base ∙ c.number_at.ensures) (step ∙ c.number_at-in-loop-row.ensures) c.loop-row.invariant.1)
 
 pub returns : goal.returns
 returns c =

@@ -7,8 +7,8 @@ use Rattle.jobfile.proofs.Rungs.{rung_amount_at}
 use Rattle.jobfile.proofs.TestLoops.{rows_more, rows_fail, rows_passed}
 use Rattle.jobfile.proofs.checks.check_rungs.Goals as goal
 
-pub returns-then-unsigned-abs-gt-GREATEST-AMOUNT : goal.returns-then-unsigned-abs-gt-GREATEST-AMOUNT
-returns-then-unsigned-abs-gt-GREATEST-AMOUNT c =
+pub returns-then-unsigned_abs-gt-GREATEST_AMOUNT : goal.returns-then-unsigned_abs-gt-GREATEST_AMOUNT
+returns-then-unsigned_abs-gt-GREATEST_AMOUNT c =
     let a = rung_amount (rungs_of (suc c.args.m) c.args.rungs.now) c.args.version in
     let is : c.at-amount.result ≡ rung c.index-rungs-from.result.base c.index-rungs-from.result.step c.args.version = search rules in
     rows_fail a (amount_fault c.args.at c.args.place c.args.version) c.args.m c.loop-row.row c.at-amount.result c.amount_fault.result

@@ -10,9 +10,9 @@ pub returns-in-4 : goal.returns-in-4
 unfolding asked
 returns-in-4 c = search rules
 
-pub returns-in-default : goal.returns-in-default
+pub returns-in_default : goal.returns-in_default
 unfolding asked
-returns-in-default c = search rules
+returns-in_default c = search rules
 
 pub returns-in-default·2 : goal.returns-in-default·2
 unfolding asked

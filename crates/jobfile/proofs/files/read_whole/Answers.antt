@@ -6,16 +6,16 @@ use Rattle.jobfile.specs.Readers.{front_of}
 use Rattle.jobfile.proofs.WholeReads.{by_fields, from_front, too_long}
 use Rattle.jobfile.proofs.files.read_whole.Goals as goal
 
-pub returns-then-file-gt-MOST-BYTES : goal.returns-then-file-gt-MOST-BYTES
-returns-then-file-gt-MOST-BYTES c = record { job = too_long c.args.file.now c.fault_at.result (omega arith) c.fault_at.ensures; rows = tt }
+pub returns-then-file-gt-MOST_BYTES : goal.returns-then-file-gt-MOST_BYTES
+returns-then-file-gt-MOST_BYTES c = record { job = too_long c.args.file.now c.fault_at.result (omega arith) c.fault_at.ensures; rows = tt }
 
-pub returns-in-err-read-fields : goal.returns-in-err-read-fields
-returns-in-err-read-fields c =
+pub returns-in_err-read_fields : goal.returns-in_err-read_fields
+returns-in_err-read_fields c =
     let file = c.args.file.now in
     let r = c.new-reader.result in
     let p = err_from_is_err_and c.from-residual.result c.from-residual.ensures.1 in
     let begins = from_front file r.file.now r.at (front_of r) c.new-reader.ensures.file c.new-reader.ensures.at c.new-reader.ensures.front in
-    rw (p.1, p.2) (record { job = by_fields file (Err c.in-err-read-fields.field-0.0) (omega arith) (c.in-err-read-fields.ensures.fields ∙ begins); rows = tt })
+    rw (p.1, p.2) (record { job = by_fields file (Err c.in_err-read_fields.field-0.0) (omega arith) (c.in_err-read_fields.ensures.fields ∙ begins); rows = tt })
 
 pub returns : goal.returns
 returns c =
@@ -23,7 +23,7 @@ returns c =
     let r = c.new-reader.result in
     let after = c.read_fields.new.self in
     let begins = from_front file r.file.now r.at (front_of r) c.new-reader.ensures.file c.new-reader.ensures.at c.new-reader.ensures.front in
-    let did = c.in-ok-read-fields.ensures in
+    let did = c.in_ok-read_fields.ensures in
     let end = did.end in
     record {
       job =

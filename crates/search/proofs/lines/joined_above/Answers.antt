@@ -20,8 +20,8 @@ loop-index-init g c =
       omega arith,
     )
 
-pub with-amount-joined-requires : goal.with-amount-joined-requires
-with-amount-joined-requires g c =
+pub with_amount-joined-requires : goal.with_amount-joined-requires
+with_amount-joined-requires g c =
     let most = c.args.grid.now.sized.0 in
     let inv = c.loop-index.invariant in
     record { there = (c.requires.near.0, omega (arith, c.places-places.ensures.is, inv.3)); near = omega (arith, inv.1); joining = c.requires.joining }
@@ -37,12 +37,12 @@ loop-index-preserved g c =
     let n = c.places-places.ensures.is in
     let from = c.min-from.ensures in
     let at = c.from.ensures in
-    let out : to_z w64 (of_z w64 c.with-amount-joined.result) ≡ c.with-amount-joined.result = omega (arith, ints) in
+    let out : to_z w64 (of_z w64 c.with_amount-joined.result) ≡ c.with_amount-joined.result = omega (arith, ints) in
     let down = above_down S p.versions (omega (arith, p.long)) l.row l.level l.constant j (omega arith) (omega (arith, inv.3)) (omega (arith, inv.3)) in
-    let with = c.with-amount-joined.ensures.is in
+    let with = c.with_amount-joined.ensures.is in
     let version = c.version.ensures in
     let so_far = inv.0 in
-    (cc, rw out (omega (arith, c.with-amount-joined.ensures.near, inv.1)), omega arith, omega (arith, inv.3))
+    (cc, rw out (omega (arith, c.with_amount-joined.ensures.near, inv.1)), omega arith, omega (arith, inv.3))
 
 pub returns : goal.returns
 returns g c =

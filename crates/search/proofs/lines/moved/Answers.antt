@@ -11,8 +11,8 @@ returns-then-from-index g c =
     let at = c.from.ensures in
     record { is = sym (cond-false (eqb (suc l.level) (c.args.index + 1)) _ l (ne_eqb _ _ (λ e. omega arith))); near = c.requires.near.1 }
 
-pub with-amount-requires : goal.with-amount-requires
-with-amount-requires g c =
+pub with_amount-requires : goal.with_amount-requires
+with_amount-requires g c =
     let near = c.requires.near.1 in
     let k : to_z w64 (of_z w64 c.args.line.constant) ≡ c.args.line.constant = omega (arith, ints) in
     record { there = (near.0, c.requires.near.0); near = rw k (omega (arith, near.1, near.2)); joining = c.requires.joining }

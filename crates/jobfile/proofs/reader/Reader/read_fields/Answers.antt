@@ -9,21 +9,21 @@ pub loop-self-preserved : goal.loop-self-preserved
 loop-self-preserved c =
     let s = c.loop-self.invariant in
     let r = c.loop-self.self in
-    let did = c.in-ok-read-field.ensures in
+    let did = c.in_ok-read_field.ensures in
     let file = c.args.self.now.file.now in
     let before : r.at < length file = omega (arith, ap length s.same) in
     field_more file _ r before c.read_field.new.self s
     (did.field ∙ ap (λ xs. read_field (front_of r) (drop r.at xs) r.at) s.same)
     (subst (λ xs. MovedOn xs r.at c.read_field.new.self) s.same did.moved)
 
-pub returns-in-err-read-field : goal.returns-in-err-read-field
-returns-in-err-read-field c =
+pub returns-in_err-read_field : goal.returns-in_err-read_field
+returns-in_err-read_field c =
     let s = c.loop-self.invariant in
     let r = c.loop-self.self in
     let p = err_from_is_err_and c.from-residual.result c.from-residual.ensures.1 in
     let file = c.args.self.now.file.now in
     let before : r.at < length file = omega (arith, ap length s.same) in
-    let e = field_fails file _ r before c.in-err-read-field.field-0.0 c.read_field.new.self s (c.in-err-read-field.ensures.field ∙ ap (λ xs. read_field (front_of r) (drop r.at xs) r.at) s.same) in
+    let e = field_fails file _ r before c.in_err-read_field.field-0.0 c.read_field.new.self s (c.in_err-read_field.ensures.field ∙ ap (λ xs. read_field (front_of r) (drop r.at xs) r.at) s.same) in
     rw (p.1, p.2) (record { fields = e; end = tt })
 
 pub returns : goal.returns

@@ -4,32 +4,32 @@ use Rattle.jobfile.specs.Readers.{BodyRead, MovedOn, SoundIn, front_job, told}
 use Rattle.jobfile.proofs.RestReads.{body_there, field_with, rest_told}
 use Rattle.jobfile.proofs.reader.Reader.read_rest.Goals as goal
 
-pub read-body-requires : goal.read-body-requires
-read-body-requires c =
+pub read_body-requires : goal.read_body-requires
+read_body-requires c =
     let size : c.from-2.result - 0 ≡ c.args.size = omega arith in
     let tail = c.args.tail.now in
     record {
       due = c.requires.due;
-      length = length-take (c.from-2.result - 0) tail ∙ omega (arith, c.if-size-length-of.false, c.length-of.ensures);
+      length = length-take (c.from-2.result - 0) tail ∙ omega (arith, c.if-size-length_of.false, c.length_of.ensures);
       body = body_there c.args.self.now c.args.size (c.from-2.result - 0) tail size c.requires.tail c.requires.there (omega arith);
     }
 
-pub returns-in-err-read-body : goal.returns-in-err-read-body
-returns-in-err-read-body c =
+pub returns-in_err-read_body : goal.returns-in_err-read_body
+returns-in_err-read_body c =
     let r = c.args.self.now in
     let p = err_from_is_err_and c.from-residual.result c.from-residual.ensures.1 in
     let size : c.from-2.result - 0 ≡ c.args.size = omega arith in
-    let b = subst (λ k. BodyRead r c.args.field (take k c.args.tail.now) (Err c.in-err-read-body.field-0.0) c.read-body.new.self) size c.in-err-read-body.ensures in
-    let e = rest_told r c.args.field c.args.size c.args.tail.now (Err c.in-err-read-body.field-0.0) c.read-body.new.self (c.if-size-length-of.false ∙ c.length-of.ensures) (omega arith) b in
+    let b = subst (λ k. BodyRead r c.args.field (take k c.args.tail.now) (Err c.in_err-read_body.field-0.0) c.read_body.new.self) size c.in_err-read_body.ensures in
+    let e = rest_told r c.args.field c.args.size c.args.tail.now (Err c.in_err-read_body.field-0.0) c.read_body.new.self (c.if-size-length_of.false ∙ c.length_of.ensures) (omega arith) b in
     rw (p.1, p.2) (record { field = e; moved = tt })
 
 pub returns : goal.returns
 returns c =
     let r = c.args.self.now in
-    let after = c.read-body.new.self in
+    let after = c.read_body.new.self in
     let size : c.from-2.result - 0 ≡ c.args.size = omega arith in
-    let b = subst (λ k. BodyRead r c.args.field (take k c.args.tail.now) (Ok (tt {0})) after) size c.in-ok-read-body.ensures in
-    let e = rest_told r c.args.field c.args.size c.args.tail.now (Ok (tt {0})) after (c.if-size-length-of.false ∙ c.length-of.ensures) (omega arith) b in
+    let b = subst (λ k. BodyRead r c.args.field (take k c.args.tail.now) (Ok (tt {0})) after) size c.in_ok-read_body.ensures in
+    let e = rest_told r c.args.field c.args.size c.args.tail.now (Ok (tt {0})) after (c.if-size-length_of.false ∙ c.length_of.ensures) (omega arith) b in
     let long : after.at + (3 + c.args.size) - r.at ≡ 3 + c.args.size = omega (arith, b.at) in
     let place : r.at + (3 + length (take c.args.size c.args.tail.now)) ≡ after.at + (3 + c.args.size) = omega (arith, b.at, length-take c.args.size c.args.tail.now) in
     record {

@@ -13,8 +13,8 @@ loop-index-preserved c =
     let x = get_or g i no_line in
     (simp length-set inv.0, take_more_set c.loop-index.lines i x (omega arith) ∙ ap (λ t. t ++ (x ∷ [])) inv.1 ∙ sym (take_more g i no_line (omega arith)))
 
-pub invariant-of-result : goal.invariant-of-result
-invariant-of-result c = (omega arith, (c.loop-index.invariant.0, tt))
+pub invariant_of-result : goal.invariant_of-result
+invariant_of-result c = (omega arith, (c.loop-index.invariant.0, tt))
 
 pub returns : goal.returns
 returns c =

@@ -4,8 +4,8 @@ use Rattle.rules.specs.Bounds.{greatest_amount}
 use Rattle.search.proofs.Grids.{Good, good_slot, amounts_put, counts_kept, same_setting}
 use Rattle.search.proofs.grid.Grid.put_amount.Goals as goal
 
-pub invariant-of-self : goal.invariant-of-self
-invariant-of-self c =
+pub invariant_of-self : goal.invariant_of-self
+invariant_of-self c =
     let s = c.args.self.now in
     let z : to_z w32 (of_z w32 c.args.amount) ≡ c.args.amount = omega (arith, ints) in
     let near : nat_abs (to_z w32 (of_z w32 c.args.amount)) ≤ greatest_amount = subst (λ (x : ℤ). nat_abs x ≤ greatest_amount) (sym z) c.requires.near in

@@ -14,16 +14,16 @@ returns-in-Some c =
     let i = c.args.index in
     record { outcome = set_next (chosen_from s) (job_limits s) (state_of s) (above s i) (i + 1) (open_above s i c.requires) c.in-Some.version c.in-Some.ensures; ready = c.requires }
 
-pub returns-then-has-room : goal.returns-then-has-room
-returns-then-has-room c =
+pub returns-then-has_room : goal.returns-then-has_room
+returns-then-has_room c =
     let s = c.args.self.now in
     let i = c.args.index in
-    let ok : room (held s.ledger) (drafted c.learn-draft.result) ≡ true = ap (λ (g : Ground). room (held s.ledger) g) (sym c.lines.ensures) ∙ sym c.if-has-room.ensures in
+    let ok : room (held s.ledger) (drafted c.learn-draft.result) ≡ true = ap (λ (g : Ground). room (held s.ledger) g) (sym c.lines.ensures) ∙ sym c.if-has_room.ensures in
     record { outcome = learn_next (chosen_from s) (job_limits s) (state_of s) (above s i) (i + 1) (open_above s i c.requires) c.in-None.ensures (drafted c.learn-draft.result) c.learn-draft.ensures ok; ready = (c.requires, ok) }
 
-pub returns-else-has-room : goal.returns-else-has-room
-returns-else-has-room c =
+pub returns-else-has_room : goal.returns-else-has_room
+returns-else-has_room c =
     let s = c.args.self.now in
     let i = c.args.index in
-    let lack : room (held s.ledger) (drafted c.learn-draft.result) ≡ false = ap (λ (g : Ground). room (held s.ledger) g) (sym c.lines.ensures) ∙ sym c.if-has-room.ensures in
+    let lack : room (held s.ledger) (drafted c.learn-draft.result) ≡ false = ap (λ (g : Ground). room (held s.ledger) g) (sym c.lines.ensures) ∙ sym c.if-has_room.ensures in
     record { outcome = full_next (chosen_from s) (job_limits s) (state_of s) (above s i) (i + 1) (open_above s i c.requires) c.in-None.ensures (drafted c.learn-draft.result) c.learn-draft.ensures lack; ready = tt }

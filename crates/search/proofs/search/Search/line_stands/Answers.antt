@@ -11,7 +11,7 @@ returns-then-opened-from c =
     let s = c.args.self.now in
     let p = c.args.part.now in
     let on = line_on (chosen_from s) (versions_of s.grid.places p) (whole_of s p) (force s) c.args.line p.opened (omega (arith, whole_of s p)) (omega (arith, c.opened.ensures, c.from.ensures)) in
-    c.breaks-limit.ensures ∙ sym on
+    c.breaks_limit.ensures ∙ sym on
 
 pub returns-else-opened-from : goal.returns-else-opened-from
 returns-else-opened-from c =

@@ -3,15 +3,15 @@ use Rattle.search.specs.States.{chosen_from, force, part_in}
 use Rattle.search.proofs.Standing.{ground_more, ground_fails, ground_all}
 use Rattle.search.proofs.search.Search.lines_stand.Goals as goal
 
-pub returns-then-not-line-stands : goal.returns-then-not-line-stands
-returns-then-not-line-stands c =
+pub returns-then-not-line_stands : goal.returns-then-not-line_stands
+returns-then-not-line_stands c =
     let s = c.args.self.now in
-    sym (c.loop-line.invariant ∙ ground_fails (chosen_from s) (force s) (part_in s c.args.part.now) c.args.ground.now c.loop-line.line-index c.loop-line-test.true (sym c.if-not-line-stands.ensures))
+    sym (c.loop-line.invariant ∙ ground_fails (chosen_from s) (force s) (part_in s c.args.part.now) c.args.ground.now c.loop-line.line-index c.loop-line-test.true (sym c.if-not-line_stands.ensures))
 
 pub loop-line-preserved : goal.loop-line-preserved
 loop-line-preserved c =
     let s = c.args.self.now in
-    c.loop-line.invariant ∙ ground_more (chosen_from s) (force s) (part_in s c.args.part.now) c.args.ground.now c.loop-line.line-index c.loop-line-test.true (sym c.if-not-line-stands.ensures)
+    c.loop-line.invariant ∙ ground_more (chosen_from s) (force s) (part_in s c.args.part.now) c.args.ground.now c.loop-line.line-index c.loop-line-test.true (sym c.if-not-line_stands.ensures)
 
 pub returns : goal.returns
 returns c =

@@ -20,10 +20,10 @@ returns-else-opened-places c =
     let low : s.part.opened < s.grid.places = omega (arith, s.within, c.opened-opened.ensures, c.places.ensures.is) in
     record {
       outcome =
-          c.go-on.ensures.outcome
+          c.go_on.ensures.outcome
           ∙ ap (λ (i : ℕ). go_on (chosen_from s) (job_limits s) (state_of s) (above s i)) c.opened-opened.ensures
           ∙ next_place (chosen_from s) (job_limits s) (state_of s) (get_or (grounds s) c.in-Some.ground []) (get_or (versions_of s.grid.places s.part) s.part.opened 0) (above s s.part.opened) c.in-Some.ensures.first (part_head s low);
-      ready = c.go-on.ensures.ready;
+      ready = c.go_on.ensures.ready;
     }
 
 pub returns-then-opened-eq0 : goal.returns-then-opened-eq0
@@ -44,9 +44,9 @@ returns-else-opened-eq0 c =
     let opened = open_part s in
     record {
       outcome =
-          c.go-on-else-opened-eq0.ensures.outcome
+          c.go_on-else-opened-eq0.ensures.outcome
           ∙ ap (λ (i : ℕ). go_on (chosen_from s) (job_limits s) (state_of s) (above s (i - 1))) c.opened-opened.ensures
           ∙ ap (go_on (chosen_from s) (job_limits s) (state_of s)) (part_above s some)
           ∙ next_open (chosen_from s) (job_limits s) (state_of s) c.in-None.ensures.first (λ e. omega arith);
-      ready = c.go-on-else-opened-eq0.ensures.ready;
+      ready = c.go_on-else-opened-eq0.ensures.ready;
     }

@@ -7,7 +7,7 @@ use Rattle.search.proofs.search.Search.put_lines.Goals as goal
 pub loop-line-preserved : goal.loop-line-preserved
 loop-line-preserved c =
     let S = chosen_from c.args.self.now in
-    c.loop-line.invariant ∙ lines_more S (moved_at S (c.args.index + 1) c.args.version) c.args.ground.now c.loop-line.line-index (drafted c.loop-line.draft) (drafted c.put-line.new.draft) c.loop-line-test.true c.put-line.ensures
+    c.loop-line.invariant ∙ lines_more S (moved_at S (c.args.index + 1) c.args.version) c.args.ground.now c.loop-line.line-index (drafted c.loop-line.draft) (drafted c.put_line.new.draft) c.loop-line-test.true c.put_line.ensures
 
 pub returns : goal.returns
 returns c =

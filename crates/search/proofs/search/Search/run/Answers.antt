@@ -21,16 +21,16 @@ returns c =
     let s = c.args.self.now in
     let near : s.steps + c.args.budget ≤ most_steps = omega arith in
     let is = run_within (chosen_from s) (job_limits s) (state_of s) c.args.budget near in
-    let ran = c.run-on.ensures.ran in
+    let ran = c.run_on.ensures.ran in
     record {
       answer = ap (λ (r : Ran). (run_reply (job_limits s) r).answer) ran ∙ sym (ap (λ (r : Reply). r.answer) is);
       job =
-          ap (λ (l : List ℤ). running (limits_of l) (state_of c.run-on.new.self)) c.run-on.ensures.kept.1
+          ap (λ (l : List ℤ). running (limits_of l) (state_of c.run_on.new.self)) c.run_on.ensures.kept.1
           ∙ ap (λ (r : Ran). (run_reply (job_limits s) r).job) ran
           ∙ sym (ap (λ (r : Reply). r.job) is);
-      kept = c.run-on.ensures.kept;
+      kept = c.run_on.ensures.kept;
       shaped = λ h.
-          ap (λ (g : Grid). all_shaped g.places (held c.run-on.new.self.ledger)) c.run-on.ensures.kept.0
+          ap (λ (g : Grid). all_shaped g.places (held c.run_on.new.self.ledger)) c.run_on.ensures.kept.0
           ∙ ap (λ (r : Ran). all_shaped s.grid.places r.state.learned) ran
           ∙ still_shaped s h c.args.budget;
     }
