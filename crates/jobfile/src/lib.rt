@@ -1,5 +1,6 @@
 // Job files: what a file states, how that is written, and how it is read.
 #![tactic(auto)]
+
 mod bodies;
 mod bounds;
 mod calls;

@@ -14,10 +14,6 @@ pub returns-in_default : goal.returns-in_default
 unfolding asked
 returns-in_default c = search rules
 
-pub returns-in-default·2 : goal.returns-in-default·2
-unfolding asked
-returns-in-default·2 c = search rules
-
 pub returns-then-request-eq0 : goal.returns-then-request-eq0
 unfolding asked
 returns-then-request-eq0 c = search rules
@@ -25,3 +21,7 @@ returns-then-request-eq0 c = search rules
 pub returns-else-request-eq0 : goal.returns-else-request-eq0
 unfolding asked
 returns-else-request-eq0 c = search rules
+
+pub returns-in_default-2 : goal.returns-in_default-2
+unfolding asked
+returns-in_default-2 c = search rules

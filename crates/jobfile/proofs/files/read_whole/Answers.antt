@@ -13,7 +13,7 @@ pub returns-in_err-read_fields : goal.returns-in_err-read_fields
 returns-in_err-read_fields c =
     let file = c.args.file.now in
     let r = c.new-reader.result in
-    let p = err_from_is_err_and c.from-residual.result c.from-residual.ensures.1 in
+    let p = err_from_is_err_and c.from_residual.result c.from_residual.ensures.1 in
     let begins = from_front file r.file.now r.at (front_of r) c.new-reader.ensures.file c.new-reader.ensures.at c.new-reader.ensures.front in
     rw (p.1, p.2) (record { job = by_fields file (Err c.in_err-read_fields.field-0.0) (omega arith) (c.in_err-read_fields.ensures.fields ∙ begins); rows = tt })
 

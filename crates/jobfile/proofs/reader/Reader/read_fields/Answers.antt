@@ -20,7 +20,7 @@ pub returns-in_err-read_field : goal.returns-in_err-read_field
 returns-in_err-read_field c =
     let s = c.loop-self.invariant in
     let r = c.loop-self.self in
-    let p = err_from_is_err_and c.from-residual.result c.from-residual.ensures.1 in
+    let p = err_from_is_err_and c.from_residual.result c.from_residual.ensures.1 in
     let file = c.args.self.now.file.now in
     let before : r.at < length file = omega (arith, ap length s.same) in
     let e = field_fails file _ r before c.in_err-read_field.field-0.0 c.read_field.new.self s (c.in_err-read_field.ensures.field ∙ ap (λ xs. read_field (front_of r) (drop r.at xs) r.at) s.same) in

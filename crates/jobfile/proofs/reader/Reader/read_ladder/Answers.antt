@@ -11,9 +11,9 @@ pub returns-in_err-check_ladder : goal.returns-in_err-check_ladder
 returns-in_err-check_ladder c =
     let r = c.args.self.now in
     let bs = c.args.body.now in
-    let p = err_from_is_err_and c.from-residual.result c.from-residual.ensures.1 in
+    let p = err_from_is_err_and c.from_residual.result c.from_residual.ensures.1 in
     let tests = ladder_tests_are r bs _ _ (ap₂ (λ a b. a + b) c.places.ensures c.places-2.ensures) c.rungs_in-rungs.ensures in
-    body_failed r field.Ladder bs c.from-residual.result _ (p.1 ∙ ap Err p.2) (ap (λ o. after_tests o (tt {0})) (sym tests) ∙ sym c.check_ladder.ensures ∙ c.in_err-check_ladder.was)
+    body_failed r field.Ladder bs c.from_residual.result _ (p.1 ∙ ap Err p.2) (ap (λ o. after_tests o (tt {0})) (sym tests) ∙ sym c.check_ladder.ensures ∙ c.in_err-check_ladder.was)
 
 pub returns : goal.returns
 returns c =

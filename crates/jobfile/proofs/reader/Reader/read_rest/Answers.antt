@@ -17,7 +17,7 @@ read_body-requires c =
 pub returns-in_err-read_body : goal.returns-in_err-read_body
 returns-in_err-read_body c =
     let r = c.args.self.now in
-    let p = err_from_is_err_and c.from-residual.result c.from-residual.ensures.1 in
+    let p = err_from_is_err_and c.from_residual.result c.from_residual.ensures.1 in
     let size : c.from-2.result - 0 ≡ c.args.size = omega arith in
     let b = subst (λ k. BodyRead r c.args.field (take k c.args.tail.now) (Err c.in_err-read_body.field-0.0) c.read_body.new.self) size c.in_err-read_body.ensures in
     let e = rest_told r c.args.field c.args.size c.args.tail.now (Err c.in_err-read_body.field-0.0) c.read_body.new.self (c.if-size-length_of.false ∙ c.length_of.ensures) (omega arith) b in

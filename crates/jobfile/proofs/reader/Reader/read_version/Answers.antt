@@ -12,9 +12,9 @@ pub returns-in_err-check_version : goal.returns-in_err-check_version
 returns-in_err-check_version c =
     let r = c.args.self.now in
     let bs = c.args.body.now in
-    let p = err_from_is_err_and c.from-residual.result c.from-residual.ensures.1 in
+    let p = err_from_is_err_and c.from_residual.result c.from_residual.ensures.1 in
     let by-listing = ap₂ (λ listed has. after_tests (found_in_version r bs (get_or bs 0 0) listed has) (tt {0})) c.places-listed.ensures c.versions-has.ensures in
-    body_failed r field.Version bs c.from-residual.result _ (p.1 ∙ ap Err p.2) (ap (λ o. after_tests o (tt {0})) (sym (version_tests_are r bs)) ∙ sym by-listing ∙ sym c.check_version.ensures ∙ c.in_err-check_version.was)
+    body_failed r field.Version bs c.from_residual.result _ (p.1 ∙ ap Err p.2) (ap (λ o. after_tests o (tt {0})) (sym (version_tests_are r bs)) ∙ sym by-listing ∙ sym c.check_version.ensures ∙ c.in_err-check_version.was)
 
 pub returns-then-place-listed : goal.returns-then-place-listed
 returns-then-place-listed c =

@@ -14,7 +14,7 @@ loop-index-preserved c =
     (simp length-set inv.0, take_more_set c.loop-index.lines i x (omega arith) ∙ ap (λ t. t ++ (x ∷ [])) inv.1 ∙ sym (take_more g i no_line (omega arith)))
 
 pub invariant_of-result : goal.invariant_of-result
-invariant_of-result c = (omega arith, (c.loop-index.invariant.0, tt))
+invariant_of-result c = record { within = omega arith; long = c.loop-index.invariant.0 }
 
 pub returns : goal.returns
 returns c =

@@ -9,7 +9,8 @@ invariant_of-self c =
     let s = c.args.self.now in
     let z : to_z w32 (of_z w32 c.args.amount) ≡ c.args.amount = omega (arith, ints) in
     let near : nat_abs (to_z w32 (of_z w32 c.args.amount)) ≤ greatest_amount = subst (λ (x : ℤ). nat_abs x ≤ greatest_amount) (sym z) c.requires.near in
-    (s.sized, (s.priced, good_slot s.positions _ _ _ _ (omega arith) (omega arith) near (s.whole, (s.counted, (s.long, (s.wide, (s.near, tt)))))))
+    let g = good_slot s.positions _ _ _ _ (omega arith) (omega arith) near (s.whole, (s.counted, (s.long, (s.wide, (s.near, tt))))) in
+    record { sized = s.sized; priced = s.priced; whole = g.0; counted = g.1.0; long = g.1.1.0; wide = g.1.1.1.0; near = g.1.1.1.1.0 }
 
 pub returns : goal.returns
 returns c =
