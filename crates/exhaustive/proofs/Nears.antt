@@ -1,5 +1,5 @@
 -- Amounts joined over a few places stay within 64 bits. Assumes nothing.
-use Rattle.std.proofs.Common.{◌≡◌, ℕ, zero, suc, ◌+◌, ◌-◌, ◌*◌, ◌<◌, ◌≤◌, ltb, leb, ℤ, pos, nat_abs, suc-mul, add-one, arith}
+use Rattle.std.proofs.Common.{◌≡◌, ℕ, zero, suc, ◌+◌, ◌*◌, ◌<◌, ◌≤◌, ltb, leb, ℤ, pos, nat_abs, suc-mul, add-one, arith}
 use Rattle.std.proofs.lemmas.Bool.{cond_both, and_parts, leb-true, ltb-true}
 use Rattle.rules.specs.Bounds.{amount_reach, most_places}
 use Rattle.rules.specs.Joinings.{Joining, Laws, joined_over}

@@ -1,5 +1,6 @@
 // Tries every choice, and knows nothing of grounds: what other searches are held against.
 #![tactic(auto)]
+
 mod found;
 mod totals;
 mod trials;

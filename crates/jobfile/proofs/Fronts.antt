@@ -14,10 +14,9 @@ use Rattle.rules.proofs.Bools.{clash}
 use Rattle.rules.specs.declared.records.Request.{Request}
 use Rattle.rules.proofs.TestLists.{Passed, test_passed, each_at}
 use Rattle.rules.proofs.Asked.{Fits as Asks, asked_fits}
-use Rattle.jobfile.specs.declared.fields.Section.TheVariants as section
 use Rattle.jobfile.specs.Bounds.{most_calls}
 use Rattle.jobfile.specs.Stated.{LadderStated, PlaceStated, Stated}
-use Rattle.jobfile.specs.Writing.{Entry, row, order, version, ladder, call, version_entries, listed_entries, ladder_entries, early_entries, entries}
+use Rattle.jobfile.specs.Writing.{Entry, order, version, ladder, call, version_entries, listed_entries, ladder_entries, early_entries, entries}
 use Rattle.jobfile.specs.Validity.{ValidVersion, ValidPlace, ValidLadder, ValidCall}
 use Rattle.jobfile.specs.Reading.{held, amount_tests, content_tests, with_entry, no_rung, ladder_amount}
 use Rattle.jobfile.specs.Refusing.{Late}

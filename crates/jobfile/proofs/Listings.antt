@@ -1,16 +1,13 @@
 -- The places of a listing, and what a version field adds to them. Assumes nothing.
-use Rattle.std.proofs.Common.{◌≡◌, ℕ, zero, suc, ◌+◌, ◌-◌, ◌*◌, ◌<◌, ◌≤◌, List, [], ◌∷◌, ◌++◌, map, length, get_or, take, drop, set, ℤ, pos, Option, sym, refl, ap, ◌∙◌, ap₂, inl, inr, arith, length-take, get_or-take}
-use Rattle.std.specs.List.{range_with_len}
-use Rattle.std.proofs.lemmas.List.FromFn.{length-map-range_with_len, fill_by_all, map-range_with_len_more}
+use Rattle.std.proofs.Common.{◌≡◌, ℕ, zero, suc, ◌+◌, ◌-◌, ◌*◌, ◌<◌, ◌≤◌, List, [], ◌∷◌, ◌++◌, map, length, get_or, take, drop, set, pos, Option, sym, refl, ap, ◌∙◌, ap₂, inl, inr, arith, length-take, get_or-take}
+use Rattle.std.proofs.lemmas.List.FromFn.{length-map-range_with_len, fill_by_all}
 use Rattle.std.proofs.lemmas.List.{length-map, take_more_set, take-take, take-map, map_push, get_or-map, get_or_past}
 use Rattle.std.proofs.lemmas.Bool.{and_from, cond-true, cond-false, and_right, le-leb, lt-leb, cases_lt}
 use Rattle.rules.specs.Numbers.{number_at}
 use Rattle.rules.specs.declared.refusals.Fault.{Fault}
 use Rattle.rules.specs.Openings.{first_fault}
-use Rattle.catalogue.specs.declared.listed.ListedPlace.{ListedPlace}
 use Rattle.catalogue.specs.declared.listed.Listing.{Listing}
-use Rattle.catalogue.specs.Listed.{behind, grown, listed_at, next_start, no_listed, versions_so_far}
-use Rattle.jobfile.specs.Stated.{PlaceStated}
+use Rattle.catalogue.specs.Listed.{behind, listed_at, no_listed, versions_so_far}
 use Rattle.jobfile.specs.declared.fields.Field.TheVariants as field
 use Rattle.jobfile.specs.declared.reader.Reader.{Reader}
 use Rattle.jobfile.specs.Reading.{amount_in, content_tests, decode, held, numbers_in, version_tests}

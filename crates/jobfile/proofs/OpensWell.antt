@@ -1,10 +1,10 @@
 -- A job that a file states opens without a fault. Assumes nothing.
-use Rattle.std.proofs.Common.{◌≡◌, ℕ, zero, suc, ◌+◌, ◌-◌, ◌^◌, ◌<◌, ◌≤◌, Bool, true, false, cond, leb, List, [], ◌∷◌, length, get_or, ℤ, pos, nat_abs, sym, refl, ap, ◌∙◌, subst, arith}
+use Rattle.std.proofs.Common.{◌≡◌, ℕ, zero, suc, ◌+◌, ◌-◌, ◌<◌, ◌≤◌, leb, [], length, get_or, pos, nat_abs, sym, refl, subst, arith}
 use Rattle.std.proofs.ByRecursion.{All-get_or}
 use Rattle.std.proofs.lemmas.List.{take_all}
 use Rattle.std.proofs.lemmas.Bool.{cond_both, leb-true, leb-false}
 use Rattle.rules.specs.declared.kinds.Kind.{Kind}
-use Rattle.rules.specs.Bounds.{most_versions, amount_reach, greatest_amount, greatest_limit}
+use Rattle.rules.specs.Bounds.{most_versions, greatest_amount, greatest_limit}
 use Rattle.rules.specs.Joinings.{kind_number}
 use Rattle.rules.specs.Catalogues.{SoundMeaning, rung}
 use Rattle.rules.specs.Sheets.{EachOnce, kind_of, limit_of, order_of, blank_row}
@@ -12,7 +12,7 @@ use Rattle.rules.specs.Openings.{Faultless}
 use Rattle.rules.proofs.Bools.{split}
 use Rattle.jobfile.specs.Stated.{LadderStated, PlaceStated, Stated}
 use Rattle.jobfile.specs.Validity.{ValidRow, ValidVersion, ValidPlace, ValidLadder, Valid}
-use Rattle.jobfile.specs.Reading.{held, ladder_amount, no_rung}
+use Rattle.jobfile.specs.Reading.{held, no_rung}
 use Rattle.jobfile.specs.Opened.{stated_sheet, no_ladder, ladder_of, stated_meaning}
 use Rattle.jobfile.specs.Theorems.{OpensLaw}
 

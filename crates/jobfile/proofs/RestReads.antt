@@ -1,14 +1,13 @@
 -- What a field comes to, once its body is read. Assumes nothing.
-use Rattle.std.proofs.Common.{◌≡◌, ℕ, ◌+◌, ◌-◌, ◌≤◌, eqb, leb, List, length, take, drop, Some, None, Ok, Err, Option, Result, sym, refl, ap, ◌∙◌, subst, ap₂, arith, length-drop, length-take}
+use Rattle.std.proofs.Common.{◌≡◌, ℕ, ◌+◌, ◌≤◌, eqb, leb, List, length, take, drop, Some, None, Ok, Err, Option, Result, sym, ap, ◌∙◌, ap₂, arith, length-drop, length-take}
 use Rattle.std.proofs.lemmas.Bool.{cond-true, eq-eqb, le-leb}
 use Rattle.rules.specs.declared.refusals.Fault.{Fault}
 use Rattle.rules.specs.Openings.{first_fault}
 use Rattle.jobfile.specs.declared.fields.Field.{Field}
-use Rattle.jobfile.specs.declared.fields.Section.{Section}
 use Rattle.jobfile.specs.declared.reader.Reader.{Reader}
 use Rattle.jobfile.specs.Stated.{Stated}
 use Rattle.jobfile.specs.Reading.{FieldRead, after_tests, content_tests, decode, field_length, read_rest, with_entry}
-use Rattle.jobfile.specs.Readers.{BodyAt, BodyRead, Sound, SoundIn, front_job, told}
+use Rattle.jobfile.specs.Readers.{BodyAt, BodyRead, front_job, told}
 
 -- what is made of an answer is made of what the tests came to
 told_made : {X Y : Type 0} (g : X → Y) (answer : Result (Unit {0}) Fault) (x y : X) (o : Option Fault) → told answer x ≡ after_tests o y → told answer (g x) ≡ after_tests o (g y)

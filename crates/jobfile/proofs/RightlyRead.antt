@@ -1,5 +1,5 @@
 -- What is promised of reading a file. Assumes nothing.
-use Rattle.std.proofs.Common.{◌≡◌, ℕ, ◌+◌, ◌≤◌, List, IfOk, Ok, Err, Result, sym, refl, ap, ◌∙◌, arith}
+use Rattle.std.proofs.Common.{◌≡◌, ℕ, ◌+◌, ◌≤◌, List, IfOk, Ok, Err, Result, sym, ap, ◌∙◌, arith}
 use Rattle.rules.specs.declared.refusals.Fault.{Fault}
 use Rattle.rules.specs.Bounds.{most_places}
 use Rattle.rules.specs.Catalogues.{SameAnswers}

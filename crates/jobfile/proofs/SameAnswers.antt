@@ -1,22 +1,21 @@
 -- The catalogue of a job in memory answers as that of the job that it states. Assumes nothing.
-use Rattle.std.proofs.Common.{◌≡◌, ℕ, zero, suc, ◌+◌, ◌-◌, ◌*◌, ◌<◌, ◌≤◌, min, Bool, true, false, cond, ◌&&◌, ltb, leb, List, [], ◌∷◌, map, length, get_or, take, ℤ, pos, Some, None, Option, sym, refl, ap, ◌∙◌, ap₂, inl, inr, arith, length-take, get_or-take}
-use Rattle.std.specs.List.{range_with_len}
+use Rattle.std.proofs.Common.{◌≡◌, ℕ, zero, suc, ◌+◌, ◌-◌, ◌*◌, ◌<◌, ◌≤◌, Bool, true, false, cond, ◌&&◌, ltb, leb, List, [], ◌∷◌, map, length, get_or, take, ℤ, pos, Some, None, sym, refl, ap, ◌∙◌, ap₂, inl, inr, arith, length-take, get_or-take}
 use Rattle.std.proofs.lemmas.List.FromFn.{get_or-map-range_with_len, length-map-range_with_len}
 use Rattle.std.proofs.lemmas.List.{get_or-map}
 use Rattle.std.proofs.lemmas.Bool.{and_parts, cases_lt, cond-true, cond-false, leb-true, ltb-true, le-leb, lt-leb}
 use Rattle.rules.specs.Bounds.{most_places}
 use Rattle.rules.specs.Numbers.{number_at}
-use Rattle.rules.specs.Catalogues.{Meaning, SameAnswers, amount_told, has_amount, has_place, rung, versions_told}
+use Rattle.rules.specs.Catalogues.{Meaning, SameAnswers, has_amount, has_place, rung}
 use Rattle.rules.specs.Sheets.{last_row}
 use Rattle.catalogue.specs.declared.ladder.LadderPlace.{LadderPlace}
 use Rattle.catalogue.specs.declared.rung.Rung.{Rung}
 use Rattle.catalogue.specs.Ladder.{no_place, no_rung, place_at, rung_at}
 use Rattle.catalogue.specs.Listed.{amount_start, behind, listed_at}
 use Rattle.jobfile.specs.declared.job.Job.{Job}
-use Rattle.jobfile.specs.Stated.{RungStated, LadderStated}
+use Rattle.jobfile.specs.Stated.{RungStated}
 use Rattle.jobfile.specs.Opened.{ladder_of, no_ladder, stated_meaning}
 use Rattle.jobfile.specs.Reading.{held, ladder_amount, rung_amount}
-use Rattle.jobfile.specs.InMemory.{amounts_at, ladder_of_place, ladders_of, listed_of, rungs_of, versions_of}
+use Rattle.jobfile.specs.InMemory.{amounts_at, ladder_of_place, ladders_of, rungs_of}
 use Rattle.jobfile.specs.Jobs.{SameRows, job_meaning, stated_by}
 use Rattle.jobfile.proofs.LadderReads.{length_ladders}
 use Rattle.jobfile.proofs.Listings.{held_at, length_listed}

@@ -1,6 +1,5 @@
 -- What a reader comes to with a version field. Assumes nothing.
-use Rattle.std.proofs.Common.{◌≡◌, ℕ, zero, suc, ◌+◌, ◌-◌, ◌*◌, ◌<◌, ◌≤◌, List, [], ◌∷◌, ◌++◌, map, length, get_or, take, drop, set, ℤ, Ok, Err, sym, refl, ap, ◌∙◌, subst, ap₂, add-mul, arith}
-use Rattle.std.specs.List.{range_with_len}
+use Rattle.std.proofs.Common.{◌≡◌, ℕ, suc, ◌+◌, ◌-◌, ◌*◌, ◌<◌, ◌≤◌, List, [], ◌∷◌, ◌++◌, map, length, get_or, take, drop, set, ℤ, Ok, sym, refl, ap, ◌∙◌, subst, ap₂, add-mul, arith}
 use Rattle.std.proofs.lemmas.List.FromFn.{map-range_with_len_more}
 use Rattle.std.proofs.lemmas.List.{get_or-set_same}
 use Rattle.std.proofs.lemmas.Bool.{and_parts, leb-true, ltb-true}
@@ -11,10 +10,9 @@ use Rattle.catalogue.specs.declared.listed.ListedPlace.{ListedPlace}
 use Rattle.catalogue.specs.declared.listed.Listing.{Listing}
 use Rattle.catalogue.specs.Listed.{behind, grown, listed_at, next_start, no_listed, version_width, versions_so_far}
 use Rattle.jobfile.specs.declared.fields.Field.TheVariants as field
-use Rattle.jobfile.specs.declared.fields.Section.TheVariants as section
 use Rattle.jobfile.specs.declared.reader.Reader.{Reader}
 use Rattle.jobfile.specs.Stated.{PlaceStated, Stated}
-use Rattle.jobfile.specs.Reading.{after_tests, amount_in, content_tests, decode, held, numbers_in, version_tests}
+use Rattle.jobfile.specs.Reading.{after_tests, amount_in, content_tests, decode, numbers_in, version_tests}
 use Rattle.jobfile.specs.InMemory.{amounts_at, versions_of, listed_of}
 use Rattle.jobfile.specs.Readers.{BodyAt, BodyRead, Due, SoundIn, front_job}
 use Rattle.jobfile.proofs.TestLoops.{passes}

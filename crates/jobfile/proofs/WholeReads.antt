@@ -1,11 +1,10 @@
 -- What a whole file comes to, by its length, its fields and its end. Assumes nothing.
-use Rattle.std.proofs.Common.{◌≡◌, ℕ, ◌<◌, ◌≤◌, leb, List, length, drop, Ok, Err, Result, sym, ap, ◌∙◌, ap₂}
+use Rattle.std.proofs.Common.{◌≡◌, ℕ, ◌<◌, ◌≤◌, leb, List, length, drop, Err, Result, sym, ap, ◌∙◌, ap₂}
 use Rattle.std.proofs.lemmas.Bool.{cond-true, cond-false, le-leb, lt-leb}
 use Rattle.rules.specs.declared.refusals.Fault.{Fault}
 use Rattle.rules.specs.declared.refusals.Refusal.TheVariants.{FileTooLong}
 use Rattle.rules.specs.Refusals.{fault_in}
 use Rattle.jobfile.specs.Bounds.{most_bytes}
-use Rattle.jobfile.specs.Stated.{Stated}
 use Rattle.jobfile.specs.Reading.{Reading, finish, fresh, read, read_fields, then}
 
 module _ (file : List ℕ) where

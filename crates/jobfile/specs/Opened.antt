@@ -1,5 +1,5 @@
 -- The sheet and the catalogue of a stated job. Assumes nothing.
-use Rattle.std.specs.Prelude.{ℕ, suc, ◌+◌, ◌-◌, cond, [], length, ℤ, pos, nat_le, slice_index_or}
+use Rattle.std.specs.Prelude.{ℕ, suc, ◌+◌, ◌-◌, cond, [], length, pos, nat_le, slice_index_or}
 use Rattle.rules.specs.declared.sheets.Sheet.{Sheet}
 use Rattle.rules.specs.Catalogues.{Meaning}
 use Rattle.jobfile.specs.Stated.{LadderStated, Stated}

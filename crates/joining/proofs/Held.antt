@@ -1,5 +1,5 @@
 -- Numbers within the range of 64 bits are held as they are. Assumes nothing.
-use Rattle.std.proofs.Common.{◌≡◌, ◌-◌, ◌^◌, ◌<◌, ℤ, pos, negsuc, nat_abs, ap, arith}
+use Rattle.std.proofs.Common.{◌≡◌, ◌^◌, ◌<◌, ℤ, pos, negsuc, nat_abs, ap, arith}
 use Rattle.joining.specs.Held.{held}
 
 pub held_near : (z : ℤ) → nat_abs z < 2 ^ 63 → held z ≡ z

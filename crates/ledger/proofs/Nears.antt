@@ -1,10 +1,10 @@
 -- Lines that the tables hold: as a fact and as a test, and in lists that are made of others. Assumes nothing.
-use Rattle.std.proofs.Common.{◌≡◌, ℕ, zero, suc, ◌+◌, ◌<◌, ◌≤◌, true, false, ◌&&◌, leb, List, [], ◌∷◌, length, get_or, take, drop, set, replicate, nat_abs, refl, ap, ◌∙◌, arith}
+use Rattle.std.proofs.Common.{◌≡◌, ℕ, zero, suc, ◌+◌, ◌<◌, ◌≤◌, true, false, ◌&&◌, leb, List, [], ◌∷◌, length, get_or, take, drop, set, replicate, refl, ap, ◌∙◌, arith}
 use Rattle.std.proofs.lemmas.List.{at_drop_more, at_drop_all}
 use Rattle.std.proofs.lemmas.Bool.{and_parts, and_from, and_left, leb-true, le-leb}
 use Rattle.rules.specs.declared.lines.Line.{Line}
 use Rattle.rules.specs.Bounds.{greatest_row, most_places}
-use Rattle.ledger.specs.Lines.{no_line, reach, Near, near, AllNear, all_near}
+use Rattle.ledger.specs.Lines.{no_line, Near, near, AllNear, all_near}
 
 pub near_none : Near no_line
 near_none = (omega arith, omega arith, omega arith)

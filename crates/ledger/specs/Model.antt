@@ -1,5 +1,5 @@
 -- What a ledger holds. Assumes nothing.
-use Rattle.std.specs.Prelude.{Bool, cond, ◌&&◌, List, [], ◌∷◌, ◌++◌}
+use Rattle.std.specs.Prelude.{Bool, ◌&&◌, List}
 use Rattle.rules.specs.Grounds.{Ground}
 use Rattle.rules.specs.Search.{room}
 use Rattle.ledger.specs.Lines.{all_near}

@@ -1,6 +1,7 @@
 // Reads a job file from standard input and prints what it states and, of all choices, the cheapest that keeps the
 // sheet's limits; or the line of the file's fault, and ends with status 1.
 #![tactic(auto)]
+
 use anyhow::anyhow;
 use catalogue::{Beside, Catalogue, Listed};
 use exhaustive::{Found, cheapest};

@@ -1,5 +1,5 @@
 -- What `next` and `reply` work out is what the rules say, and nothing else is. Assumes nothing.
-use Rattle.std.proofs.Common.{◌≡◌, ℕ, zero, suc, ◌+◌, ◌-◌, ◌≤◌, leb, List, [], ◌∷◌, ◌++◌, map, reverse, pos, negsuc, nat_abs, Some, sym, refl, ap, ◌∙◌, subst, arith}
+use Rattle.std.proofs.Common.{◌≡◌, ℕ, zero, suc, ◌+◌, ◌≤◌, leb, List, [], ◌∷◌, ◌++◌, map, reverse, pos, negsuc, nat_abs, Some, sym, refl, ap, ◌∙◌, subst, arith}
 use mathlib.Core.List.{reverse-cons}
 use Rattle.std.proofs.lemmas.Bool.{cond-true, cond-false, cond_both, le-leb, lt-leb, leb-true, leb-false}
 use Rattle.rules.specs.declared.refusals.Refusal.{Refusal}

@@ -1,5 +1,5 @@
 -- Lines that are put together stand where each of them does. Assumes nothing.
-use Rattle.std.proofs.Common.{◌≡◌, ℕ, ◌-◌, ◌≤◌, true, false, leb, List, [], ◌∷◌, ℤ, sym, refl, subst}
+use Rattle.std.proofs.Common.{◌≡◌, ℕ, ◌≤◌, true, false, leb, List, [], ◌∷◌, ℤ, sym, refl, subst}
 use Rattle.std.specs.List.{AllByRecursion as All}
 use Rattle.std.proofs.lemmas.Bool.{cond-true, cond-false, cond_both, and_parts, and_from, eqb-true}
 use Rattle.rules.specs.declared.lines.Line.{Line}

@@ -1,5 +1,5 @@
 -- What comes next in a search, by the rules. Assumes nothing.
-use Rattle.std.specs.Prelude.{◌≡◌, ℕ, suc, ◌+◌, ◌<◌, ◌≤◌, true, List, [], ◌∷◌, length, ℤ, pos, ◌-ℤ◌, Some, slice_index_or, unsigned_abs}
+use Rattle.std.specs.Prelude.{◌≡◌, suc, ◌+◌, ◌<◌, ◌≤◌, true, [], ◌∷◌, ℤ, pos, ◌-ℤ◌, Some, slice_index_or, unsigned_abs}
 use Rattle.rules.specs.Bounds.{most_places}
 use Rattle.rules.specs.Search.{State, at_part, with_ground, room, Outcome, ended, full, stepped}
 use Rattle.ledger.specs.Lines.{reach}

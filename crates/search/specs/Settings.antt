@@ -1,5 +1,5 @@
 -- A grid as a setting of the rules, and how a setting is made place by place. Assumes nothing.
-use Rattle.std.specs.Prelude.{ℕ, ◌-◌, ◌≤◌, Bool, cond, ◌&&◌, ℤ, pos, ◌==◌, nat_le, slice_index_or, unsigned_abs}
+use Rattle.std.specs.Prelude.{ℕ, ◌-◌, Bool, cond, ◌&&◌, ℤ, pos, ◌==◌, nat_le, slice_index_or, unsigned_abs}
 use Rattle.rules.specs.declared.kinds.Kind.{Kind}
 use Rattle.rules.specs.declared.kinds.Kind.TheVariants.{SumAtMost}
 use Rattle.rules.specs.Bounds.{greatest_row, greatest_amount, most_versions}

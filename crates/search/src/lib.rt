@@ -1,5 +1,6 @@
 // The search for the least choice, by position, over a table of amounts.
 #![tactic(auto)]
+
 mod closing;
 mod found;
 mod grid;

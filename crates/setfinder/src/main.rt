@@ -1,5 +1,6 @@
 // Takes one job from start to finish by trying every choice, and prints what it did.
 #![tactic(auto)]
+
 use anyhow::anyhow;
 use catalogue::{Beside, Catalogue, Ladder, Rung};
 use exhaustive::{Found, cheapest};

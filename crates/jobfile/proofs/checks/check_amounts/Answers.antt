@@ -1,4 +1,4 @@
-use Rattle.std.proofs.Common.{◌≡◌, suc, ap, ◌∙◌, arith}
+use Rattle.std.proofs.Common.{ap, ◌∙◌, arith}
 use borrow.Author.Differences.{ints}
 use Rattle.jobfile.specs.Reading.{amount_in, amount_fault}
 use Rattle.jobfile.proofs.Codec.{amount_at}

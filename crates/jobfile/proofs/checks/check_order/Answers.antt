@@ -1,4 +1,4 @@
-use Rattle.std.proofs.Common.{cond, sym, ap, ◌∙◌, arith, rules}
+use Rattle.std.proofs.Common.{sym, arith}
 use Rattle.jobfile.proofs.TestLoops.{all_more, one_missing}
 use Rattle.jobfile.proofs.checks.check_order.Goals as goal
 

@@ -1,4 +1,4 @@
-use Rattle.std.proofs.Common.{◌≡◌, ◌+◌, ◌-◌, ◌<◌, ◌≤◌, length, drop, ℤ, nat_abs, sym, ap, ◌∙◌, subst, arith, w64, to_z, of_z}
+use Rattle.std.proofs.Common.{◌≡◌, ◌+◌, ◌-◌, ◌≤◌, ℤ, nat_abs, sym, ◌∙◌, subst, arith, w64, to_z, of_z}
 use borrow.Author.Differences.{ints}
 use Rattle.rules.specs.Bounds.{most_places}
 use Rattle.ledger.specs.Lines.{reach}

@@ -1,7 +1,7 @@
-use Rattle.std.proofs.Common.{◌≡◌, ◌<◌, length, drop, Ok, Err, ap, ◌∙◌, subst, arith}
+use Rattle.std.proofs.Common.{◌<◌, length, drop, ap, ◌∙◌, subst, arith}
 use Rattle.std.proofs.lemmas.Result.{err_from_is_err_and}
 use Rattle.jobfile.specs.Reading.{read_field}
-use Rattle.jobfile.specs.Readers.{MovedOn, field_between, front_of, told}
+use Rattle.jobfile.specs.Readers.{MovedOn, front_of}
 use Rattle.jobfile.proofs.FieldLoops.{field_fails, field_more, fields_end}
 use Rattle.jobfile.proofs.reader.Reader.read_fields.Goals as goal
 

@@ -1,4 +1,4 @@
-use Rattle.std.proofs.Common.{◌≡◌, map, length, take, sym, refl, ap, ◌∙◌, subst, arith, rules}
+use Rattle.std.proofs.Common.{map, length, take, sym, refl, ap, ◌∙◌, rules}
 use Rattle.std.proofs.lemmas.List.{take_at}
 use Rattle.jobfile.specs.InMemory.{versions_of, ladder_of_place}
 use Rattle.jobfile.specs.Readers.{front_job}

@@ -1,7 +1,7 @@
-use Rattle.std.proofs.Common.{◌≡◌, ℕ, ◌+◌, ◌-◌, ◌≤◌, length, take, Ok, Err, sym, refl, ap, ◌∙◌, subst, ap₂, arith, length-drop, length-take}
+use Rattle.std.proofs.Common.{◌≡◌, ◌+◌, ◌-◌, length, take, Ok, Err, sym, ap, ◌∙◌, subst, ap₂, arith, length-drop, length-take}
 use Rattle.std.proofs.lemmas.Result.{err_from_is_err_and}
-use Rattle.jobfile.specs.Readers.{BodyRead, MovedOn, SoundIn, front_job, told}
-use Rattle.jobfile.proofs.RestReads.{body_there, field_with, rest_told}
+use Rattle.jobfile.specs.Readers.{BodyRead, SoundIn, front_job}
+use Rattle.jobfile.proofs.RestReads.{body_there, rest_told}
 use Rattle.jobfile.proofs.reader.Reader.read_rest.Goals as goal
 
 pub read_body-requires : goal.read_body-requires

@@ -1,6 +1,5 @@
 use Rattle.std.proofs.Common.{◌≡◌, get_or, Ok, sym, refl, ap, ◌∙◌, subst, arith, w32, to_z, of_z, rules}
 use borrow.Author.Differences.{ints}
-use Rattle.rules.specs.Numbers.{number_at}
 use Rattle.rules.specs.Openings.{first_fault}
 use Rattle.jobfile.specs.Reading.{after_tests, row_tests}
 use Rattle.jobfile.specs.Readers.{front_job}

@@ -1,4 +1,4 @@
-use Rattle.std.proofs.Common.{◌≡◌, ◌<◌, ◌≤◌, true, false, length, get_or, sym, ap, ◌∙◌, arith, length-take}
+use Rattle.std.proofs.Common.{◌≡◌, ◌<◌, ◌≤◌, true, false, length, get_or, arith, length-take}
 use Rattle.std.proofs.lemmas.List.{get_or-take}
 use Rattle.ledger.specs.Lines.{no_line}
 use Rattle.ledger.specs.Places.{stops}

@@ -1,4 +1,4 @@
-use Rattle.std.proofs.Common.{◌≡◌, ◌∷◌, ◌++◌, length, take, drop, sym, refl, ap, ◌∙◌, arith, length-set}
+use Rattle.std.proofs.Common.{◌∷◌, ◌++◌, take, drop, sym, refl, ap, arith, length-set}
 use Rattle.std.proofs.lemmas.List.{take-take}
 use Rattle.ledger.proofs.Nears.{near_set}
 use Rattle.ledger.proofs.Inserts.{carry_more, carry_end, rest_more}

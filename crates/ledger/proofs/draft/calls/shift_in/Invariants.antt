@@ -1,4 +1,4 @@
-use Rattle.std.proofs.Common.{◌≡◌, ◌+◌, ◌≤◌, ◌∷◌, ◌++◌, length, take, drop}
+use Rattle.std.proofs.Common.{◌≡◌, ◌≤◌, ◌∷◌, ◌++◌, length, take, drop}
 use Rattle.ledger.specs.Lines.{Near, AllNear}
 use Rattle.ledger.specs.Places.{most_drafted}
 use Rattle.ledger.proofs.draft.calls.shift_in.Given as goal

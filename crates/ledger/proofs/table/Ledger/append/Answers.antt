@@ -1,4 +1,4 @@
-use Rattle.std.proofs.Common.{◌≡◌, ℕ, ◌+◌, ◌<◌, List, [], ◌∷◌, ◌++◌, length, take, drop, ap, ◌∙◌, arith}
+use Rattle.std.proofs.Common.{ℕ, ◌+◌, ◌<◌, List, [], ◌∷◌, ◌++◌, length, take, drop, ap, ◌∙◌, arith}
 use Rattle.rules.specs.Grounds.{Ground}
 use Rattle.ledger.specs.declared.records.GroundRecord.{GroundRecord}
 use Rattle.ledger.proofs.Cuts.{takes_counts, counts_more, ends_more, appended}

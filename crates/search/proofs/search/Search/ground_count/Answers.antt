@@ -1,4 +1,4 @@
-use Rattle.std.proofs.Common.{sym, arith}
+use Rattle.std.proofs.Common.{arith}
 use Rattle.ledger.specs.Model.{held}
 use Rattle.search.specs.States.{chosen_from}
 use Rattle.search.proofs.Standing.{ledger_length}

@@ -1,4 +1,4 @@
-use Rattle.std.proofs.Common.{◌≡◌, ◌-◌, ◌<◌, ◌≤◌, [], get_or, sym, ap, ◌∙◌, arith}
+use Rattle.std.proofs.Common.{◌≡◌, ◌-◌, ◌<◌, ◌≤◌, [], get_or, ap, ◌∙◌, arith}
 use Rattle.rules.specs.Grounds.{Ground, stands}
 use Rattle.ledger.specs.Model.{held}
 use Rattle.search.specs.States.{chosen_from, force, part_in}

@@ -1,7 +1,6 @@
 use Rattle.std.proofs.Common.{◌<◌, ap, ◌∙◌, arith}
 use Rattle.rules.specs.Search.{stepped}
 use Rattle.search.specs.States.{state_of}
-use Rattle.search.specs.Nexts.{after}
 use Rattle.search.proofs.Running.{run_ended, run_full, run_out, run_more}
 use Rattle.search.proofs.search.Search.run_on.Goals as goal
 

@@ -1,5 +1,5 @@
 use Rattle.std.proofs.Common.{ℕ, ap, ◌∙◌}
-use Rattle.rules.specs.Calls.{Finding, Verdict}
+use Rattle.rules.specs.Calls.{Finding}
 use Rattle.search.specs.Findings.{told, cut_verdict}
 use Rattle.search.proofs.GroundShapes.{whole_told}
 use Rattle.search.proofs.search.Search.verdict.Goals as goal

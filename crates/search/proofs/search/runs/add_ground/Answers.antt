@@ -1,4 +1,4 @@
-use Rattle.std.proofs.Common.{◌≡◌, [], ◌∷◌, ◌++◌, sym, ap, ◌∙◌}
+use Rattle.std.proofs.Common.{[], ◌∷◌, ◌++◌, ap, ◌∙◌}
 use Rattle.std.proofs.lemmas.Bool.{and_from, cond-true}
 use Rattle.rules.specs.Grounds.{Ground}
 use Rattle.ledger.specs.Model.{held, takes}
