@@ -111,6 +111,9 @@ def main(argv):
             if re.search(r"use Rattle\.std[^\n]*[{ ,]" + re.escape(old) + r"[,} ]", text):
                 print(f"imported from std: {path}: {old}")
         new = turned(text, table, path)
+        if "AllByRecursion as All" in new:
+            # a use under the name of another word of the library is refused
+            new = turned(new.replace("AllByRecursion as All", "AllByRecursion"), {"All": "AllByRecursion"}, path)
         if new != text:
             changed += 1
             if "--dry" not in argv:

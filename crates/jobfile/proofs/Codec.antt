@@ -3,7 +3,7 @@ use Rattle.std.proofs.Common.{◌≡◌, ℕ, zero, suc, ◌+◌, ◌*◌, ◌/�
 use mir.ValLaws.{to_z-Fits}
 use Rattle.std.proofs.ByRecursion.{All-drop}
 use Rattle.std.proofs.lemmas.Int.{to_z-of_z, of_z-to_z}
-use Rattle.std.specs.List.{AllByRecursion as All}
+use Rattle.std.specs.List.{AllByRecursion}
 use Rattle.rules.specs.Numbers.{number_at}
 use Rattle.jobfile.specs.Reading.{amount_in, numbers_in, rungs_in}
 use Rattle.jobfile.specs.Writing.{four, fours, rung_numbers}
@@ -11,7 +11,7 @@ use Rattle.jobfile.specs.Stated.{RungStated}
 
 -- each is a byte
 abbrev pub Bytes : List ℕ → Type 0
-Bytes bs = All (λ b. b < 2 ^ 8) bs
+Bytes bs = AllByRecursion (λ b. b < 2 ^ 8) bs
 
 fits_below : (z : ℤ) → SFits w32 z → of_z w32 z < 2 ^ 32
 fits_below (pos n) f = omega (arith, f.sfits)
@@ -51,7 +51,7 @@ fours_back (suc k) (a ∷ (b ∷ (c ∷ (d ∷ bs)))) h e =
     let q = four_number a b c d bs h.0 h.1.0 h.1.1.0 h.1.1.1.0 in
     ap (λ xs. xs ++ fours (numbers_in k bs)) q ∙ ap (λ t. a ∷ (b ∷ (c ∷ (d ∷ t)))) i
 
-pub fours_there : (zs : List ℤ) → All (SFits w32) zs → numbers_in (length zs) (fours zs) ≡ zs
+pub fours_there : (zs : List ℤ) → AllByRecursion (SFits w32) zs → numbers_in (length zs) (fours zs) ≡ zs
 unfolding numbers_in
 fours_there [] h = refl
 fours_there (z ∷ zs) h = rw (number_four z (fours zs) h.0, fours_there zs h.1)
@@ -121,7 +121,7 @@ byte_at (b ∷ bs) h (suc i) = byte_at bs h.1 i
 pub number_fits : (bs : List ℕ) (i : ℕ) → Bytes bs → SFits w32 (number_at bs i)
 number_fits bs i h = to_z-Fits w32 _ record { fits = omega (arith, byte_at bs h i, byte_at bs h (i + 1), byte_at bs h (i + 2), byte_at bs h (i + 3)) }
 
-pub numbers_fit : (k : ℕ) (bs : List ℕ) → Bytes bs → All (SFits w32) (numbers_in k bs)
+pub numbers_fit : (k : ℕ) (bs : List ℕ) → Bytes bs → AllByRecursion (SFits w32) (numbers_in k bs)
 unfolding numbers_in
 numbers_fit zero bs h = tt
 numbers_fit (suc k) bs h = (number_fits bs 0 h, numbers_fit k (drop 4 bs) (All-drop (λ b. b < 2 ^ 8) 4 bs h))

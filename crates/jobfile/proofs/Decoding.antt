@@ -1,6 +1,6 @@
 -- What a body says, and the body that says it. Assumes nothing.
 use Rattle.std.proofs.Common.{◌≡◌, ℕ, suc, ◌+◌, ◌*◌, ◌^◌, ◌<◌, List, [], ◌∷◌, ◌++◌, length, get_or, drop, ℤ, sym, refl, ap, ◌∙◌, subst, append-nil, arith, w32, SFits}
-use Rattle.std.specs.List.{AllByRecursion as All}
+use Rattle.std.specs.List.{AllByRecursion}
 use Rattle.std.proofs.ByRecursion.{All-drop}
 use Rattle.jobfile.specs.declared.fields.Field.{Field}
 use Rattle.jobfile.specs.declared.fields.Field.TheVariants as field
@@ -22,7 +22,7 @@ Shaped j (call r) = Unit {0}
 -- its single numbers are bytes, and the others fit four bytes
 pub record Fits (e : Entry) : Type 0 where
   pub bytes : Bytes (singles e)
-  pub long : All (SFits w32) (numbers e)
+  pub long : AllByRecursion (SFits w32) (numbers e)
 
 pub field_decoded : (j : Stated) (f : Field) (bs : List ℕ) → field_of (decode j f bs) ≡ f
 field_decoded j field.Sheet bs = refl
@@ -56,7 +56,7 @@ body_decoded j field.Ladder bs h e =
     ap (λ zs. (get_or bs 0 0 ∷ (get_or bs 1 0 ∷ [])) ++ fours zs) (rungs_back (suc j.last_row) (numbers_in k (drop 2 bs)) (length_numbers k (drop 2 bs))) ∙ two_back k bs h (omega arith)
 body_decoded j field.Call bs h e = let i = two_back 1 bs h e in rw (lone, number_drop) at i
 
-numbers_again : (k : ℕ) (zs : List ℤ) → length zs ≡ k → All (SFits w32) zs → numbers_in k (fours zs) ≡ zs
+numbers_again : (k : ℕ) (zs : List ℤ) → length zs ≡ k → AllByRecursion (SFits w32) zs → numbers_in k (fours zs) ≡ zs
 numbers_again k zs e w = ap (λ i. numbers_in i (fours zs)) (sym e) ∙ fours_there zs w
 
 -- the body of an entry says that entry
@@ -104,6 +104,6 @@ fits_decoded j field.Ladder bs h =
     let k = 2 * suc j.last_row in
     record {
       bytes = (first_byte bs h, (second_byte bs h, tt));
-      long = subst (All (SFits w32)) (sym (rungs_back (suc j.last_row) (numbers_in k (drop 2 bs)) (length_numbers k (drop 2 bs)))) (numbers_fit k (drop 2 bs) (All-drop (λ b. b < 2 ^ 8) 2 bs h));
+      long = subst (AllByRecursion (SFits w32)) (sym (rungs_back (suc j.last_row) (numbers_in k (drop 2 bs)) (length_numbers k (drop 2 bs)))) (numbers_fit k (drop 2 bs) (All-drop (λ b. b < 2 ^ 8) 2 bs h));
     }
 fits_decoded j field.Call bs h = record { bytes = (first_byte bs h, (second_byte bs h, tt)); long = (number_fits bs 2 h, tt) }

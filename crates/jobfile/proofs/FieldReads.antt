@@ -1,6 +1,6 @@
 -- A field is read exactly where it is the writing of an entry that may come there. Assumes nothing.
 use Rattle.std.proofs.Common.{◌≡◌, ℕ, suc, ◌+◌, ◌*◌, ◌/◌, ◌%◌, ◌^◌, ◌<◌, ◌≤◌, Bool, true, false, cond, ◌&&◌, eqb, ltb, leb, List, [], ◌∷◌, ◌++◌, length, take, Some, None, Ok, Err, Option, Result, sym, refl, ap, ◌∙◌, ap₂, arith, length-append, length-take}
-use Rattle.std.specs.List.{AllByRecursion as All}
+use Rattle.std.specs.List.{AllByRecursion}
 use Rattle.std.proofs.ByRecursion.{All-take}
 use Rattle.std.proofs.lemmas.List.{take_at}
 use Rattle.std.proofs.lemmas.Bool.{and_parts, eqb-true, eq-eqb, leb-true, le-leb, cond-true}
@@ -22,7 +22,7 @@ pub record Takes (at : ℕ) (s : Reading) (e : Entry) (t : Reading) : Type 0 whe
   pub said : announced s.job s.section (tag_of (field_of e)) ≡ next (field_of e) t.section
   pub shaped : Shaped s.job e
   pub fits : Fits e
-  pub passes : All Passed (content_tests s.job e at)
+  pub passes : AllByRecursion Passed (content_tests s.job e at)
   pub adds : t.job ≡ with_entry s.job e
 
 -- refusals and answers are told apart

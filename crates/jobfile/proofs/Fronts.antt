@@ -1,6 +1,6 @@
 -- How far a file is read is the front of a valid job, and what is read is its writing. Assumes nothing.
 use Rattle.std.proofs.Common.{◌≡◌, ℕ, zero, suc, ◌+◌, ◌-◌, ◌<◌, ◌≤◌, true, false, List, [], ◌∷◌, ◌++◌, map, length, get_or, take, drop, ℤ, pos, nat_abs, is_some, Some, None, Option, sym, refl, ap, ◌∙◌, ap₂, inl, inr, append_assoc, append-nil, arith, length-append, length-take}
-use Rattle.std.specs.List.{AllByRecursion as All}
+use Rattle.std.specs.List.{AllByRecursion}
 use Rattle.std.proofs.ByRecursion.{All-append, All-take, All-from_get_or}
 use Rattle.std.proofs.lemmas.List.{take-append-drop, take_all, get_or_past, drop_all, drop_more}
 use Rattle.std.proofs.lemmas.Bool.{and_parts, eqb-true, leb-true, ltb-true, cases_lt}
@@ -56,7 +56,7 @@ push_tail early o t u e h = ap (λ x. early ++ (o ∷ x)) h ∙ sym (append_asso
 
 -- ---- versions
 
-held_versions : (m : ℕ) (ps : List PlaceStated) (i : ℕ) → All (ValidPlace m) ps → All (ValidVersion m) (get_or ps i [])
+held_versions : (m : ℕ) (ps : List PlaceStated) (i : ℕ) → AllByRecursion (ValidPlace m) ps → AllByRecursion (ValidVersion m) (get_or ps i [])
 held_versions m [] i h = tt
 held_versions m (p ∷ ps) zero h = h.0.versions
 held_versions m (p ∷ ps) (suc i) h = held_versions m ps i h.1
@@ -74,7 +74,7 @@ refill ps i a b =
           ap₂ (λ x y. listed_entries 1 (x ++ (y ∷ []))) all none ∙ listed_empty 1 ps
     ]
 
-module _ (j : Stated) (q : ℕ) (zs : List ℤ) (at : ℕ) (h : Late j) (none : j.ladders ≡ []) (quiet : j.calls ≡ []) (shaped : length zs ≡ suc j.last_row) (passes : All Passed (content_tests j (version q zs) at)) where
+module _ (j : Stated) (q : ℕ) (zs : List ℤ) (at : ℕ) (h : Late j) (none : j.ladders ≡ []) (quiet : j.calls ≡ []) (shaped : length zs ≡ suc j.last_row) (passes : AllByRecursion Passed (content_tests j (version q zs) at)) where
   turn_facts : (1 ≤ q) × (q ≤ j.places) × (length j.listed ≤ q) × (q ≤ suc (length j.listed))
   turn_facts =
       let a = and_parts _ _ (test_passed _ _ passes.0) in
@@ -130,7 +130,7 @@ module _ (j : Stated) (q : ℕ) (zs : List ℤ) (at : ℕ) (h : Late j) (none : 
 
 -- ---- ladders
 
-module _ (j : Stated) (q : ℕ) (l : LadderStated) (at : ℕ) (h : Late j) (quiet : j.calls ≡ []) (shaped : length l.rungs ≡ suc j.last_row) (fits : Fits (ladder q l)) (passes : All Passed (content_tests j (ladder q l) at)) where
+module _ (j : Stated) (q : ℕ) (l : LadderStated) (at : ℕ) (h : Late j) (quiet : j.calls ≡ []) (shaped : length l.rungs ≡ suc j.last_row) (fits : Fits (ladder q l)) (passes : AllByRecursion Passed (content_tests j (ladder q l) at)) where
   ladder_turn : (q ≡ suc (length j.listed + length j.ladders)) × (q ≤ j.places)
   ladder_turn = let a = and_parts _ _ (test_passed _ _ passes.0) in (eqb-true _ _ a.0, leb-true _ _ a.1)
 
@@ -178,7 +178,7 @@ asks_call : (r : Request) (o : Option Call) → is_some o ≡ true → Asks r o 
 asks_call r None b h = clash {b = false} b refl
 asks_call r (Some c) b h = (c, h)
 
-module _ (j : Stated) (r : Request) (at : ℕ) (h : Late j) (fits : Fits (call r)) (passes : All Passed (content_tests j (call r) at)) where
+module _ (j : Stated) (r : Request) (at : ℕ) (h : Late j) (fits : Fits (call r)) (passes : AllByRecursion Passed (content_tests j (call r) at)) where
   pub late_call : Late (with_entry j (call r))
   late_call =
       let a = and_parts _ _ (test_passed _ _ passes.0) in

@@ -1,6 +1,6 @@
 -- One field more leads from the front of a valid job to the front of one. Assumes nothing.
 use Rattle.std.proofs.Common.{◌≡◌, ℕ, ◌<◌, Bool, true, false, cond, eqb, ltb, List, [], ◌∷◌, ◌++◌, length, None, sym, refl, ap, ◌∙◌, subst, append_assoc, append-nil, arith, length-append}
-use Rattle.std.specs.List.{AllByRecursion as All}
+use Rattle.std.specs.List.{AllByRecursion}
 use Rattle.std.proofs.ByRecursion.{All-append}
 use Rattle.std.proofs.lemmas.Bool.{and_parts, eqb-true, leb-true, ltb-true}
 use Rattle.rules.proofs.TestLists.{Passed, test_passed, all_contained}
@@ -35,7 +35,7 @@ cond_next false e = no_next e
 module _ (j : Stated) (at : ℕ) where
   -- that may come, and is as it should be
   abbrev Good : Entry → Type 0
-  Good e = Shaped j e × Fits e × All Passed (content_tests j e at)
+  Good e = Shaped j e × Fits e × AllByRecursion Passed (content_tests j e at)
 
   abbrev Moves : Section → Entry → Type 0
   Moves c e = (d : Section) → announced j c (tag_of (field_of e)) ≡ next (field_of e) d → Good e → Front c j → Moved c j e d

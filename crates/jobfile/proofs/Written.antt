@@ -1,7 +1,7 @@
 -- The fields of a valid job may come one after the other. Assumes nothing.
 use Rattle.std.proofs.Common.{◌≡◌, ℕ, suc, ◌+◌, ◌-◌, ◌^◌, ◌<◌, ◌≤◌, true, eqb, ltb, List, [], ◌∷◌, ◌++◌, map, length, get_or, take, ℤ, pos, nat_abs, is_some, sym, refl, ap, ◌∙◌, subst, ap₂, append_assoc, append-nil, arith, length-append, w32, SFits}
 use borrow.Author.Differences.{ints}
-use Rattle.std.specs.List.{AllByRecursion as All}
+use Rattle.std.specs.List.{AllByRecursion}
 use Rattle.std.proofs.ByRecursion.{All-weaker, All-get_or}
 use Rattle.std.proofs.lemmas.List.{take_at, take_all, get_or_past}
 use Rattle.std.proofs.lemmas.Bool.{and_from, eq-eqb, le-leb, lt-ltb, cond-true}
@@ -176,7 +176,7 @@ module _ (j : Stated) (v : Valid j) where
         adds = refl;
       }
 
-  runs_rows : (done rest : List Row) → length done + length rest ≤ j.last_row → All ValidRow rest → (at : ℕ) → Runs at (at_rows done) (map row rest) (at_rows (done ++ rest))
+  runs_rows : (done rest : List Row) → length done + length rest ≤ j.last_row → AllByRecursion ValidRow rest → (at : ℕ) → Runs at (at_rows done) (map row rest) (at_rows (done ++ rest))
   runs_rows done [] l h at = subst (λ x. Runs at (at_rows done) [] (at_rows x)) (sym (append-nil done)) stop
   runs_rows done (r ∷ rest) l h at =
       let grown = length-append done (r ∷ []) in
@@ -185,7 +185,7 @@ module _ (j : Stated) (v : Valid j) where
       (runs_rows (done ++ (r ∷ [])) rest (omega (arith, grown)) h.1 (at + length (field_bytes (row r)))))
 
   -- the versions of a place after its first ones
-  runs_versions : (qs : List PlaceStated) (vs ws : PlaceStated) → suc (length qs) ≤ j.places → length vs + length ws ≤ most_versions → All (ValidVersion j.last_row) ws → (at : ℕ) → Runs at (at_listed (qs ++ (vs ∷ []))) (version_entries (suc (length qs)) ws) (at_listed (qs ++ ((vs ++ ws) ∷ [])))
+  runs_versions : (qs : List PlaceStated) (vs ws : PlaceStated) → suc (length qs) ≤ j.places → length vs + length ws ≤ most_versions → AllByRecursion (ValidVersion j.last_row) ws → (at : ℕ) → Runs at (at_listed (qs ++ (vs ∷ []))) (version_entries (suc (length qs)) ws) (at_listed (qs ++ ((vs ++ ws) ∷ [])))
   runs_versions qs vs [] l m h at = subst (λ x. Runs at (at_listed (qs ++ (vs ∷ []))) [] (at_listed (qs ++ (x ∷ [])))) (sym (append-nil vs)) stop
   runs_versions qs vs (z ∷ ws) l m h at =
       let q = suc (length qs) in
@@ -213,7 +213,7 @@ module _ (j : Stated) (v : Valid j) where
       go (subst (λ x. Takes at (at_listed qs) (version q z) (at_listed x)) after (takes_version at qs q z (omega arith) l (omega arith) (omega arith) (omega (arith, size)) h.versions.0))
       (runs_versions qs (z ∷ []) ws l (omega (arith, h.few)) h.versions.1 (at + length (field_bytes (version q z))))
 
-  runs_listed : (qs ps : List PlaceStated) → length qs + length ps ≤ j.places → All (ValidPlace j.last_row) ps → (at : ℕ) → Runs at (at_listed qs) (listed_entries (suc (length qs)) ps) (at_listed (qs ++ ps))
+  runs_listed : (qs ps : List PlaceStated) → length qs + length ps ≤ j.places → AllByRecursion (ValidPlace j.last_row) ps → (at : ℕ) → Runs at (at_listed qs) (listed_entries (suc (length qs)) ps) (at_listed (qs ++ ps))
   runs_listed qs [] l h at = subst (λ x. Runs at (at_listed qs) [] (at_listed x)) (sym (append-nil qs)) stop
   runs_listed qs (p ∷ ps) l h at =
       let q = suc (length qs) in
@@ -225,7 +225,7 @@ module _ (j : Stated) (v : Valid j) where
       (subst (λ n. Runs then_at (at_listed (qs ++ (p ∷ []))) (listed_entries n ps) (at_listed ((qs ++ (p ∷ [])) ++ ps))) next-q
       (runs_listed (qs ++ (p ∷ [])) ps (omega (arith, grown)) h.1 then_at)))
 
-  runs_ladders : (c : Section) (ls ms : List LadderStated) → MayLadder c → length j.listed + (length ls + length ms) ≤ j.places → All (ValidLadder j.last_row) ms → (at : ℕ) → Runs at (at_ladders c ls) (ladder_entries (suc (length j.listed + length ls)) ms) (at_ladders (section_after c section.Ladders ms) (ls ++ ms))
+  runs_ladders : (c : Section) (ls ms : List LadderStated) → MayLadder c → length j.listed + (length ls + length ms) ≤ j.places → AllByRecursion (ValidLadder j.last_row) ms → (at : ℕ) → Runs at (at_ladders c ls) (ladder_entries (suc (length j.listed + length ls)) ms) (at_ladders (section_after c section.Ladders ms) (ls ++ ms))
   runs_ladders c ls [] may l h at = subst (λ x. Runs at (at_ladders c ls) [] (at_ladders c x)) (sym (append-nil ls)) stop
   runs_ladders c ls (m ∷ ms) may l h at =
       let q = suc (length j.listed + length ls) in
@@ -238,7 +238,7 @@ module _ (j : Stated) (v : Valid j) where
       (subst (λ d. Runs then_at (at_ladders section.Ladders (ls ++ (m ∷ []))) (ladder_entries (suc (length j.listed + length (ls ++ (m ∷ [])))) ms) (at_ladders d ((ls ++ (m ∷ [])) ++ ms))) (after_same section.Ladders ms)
       (runs_ladders section.Ladders (ls ++ (m ∷ [])) ms ((λ k. refl), λ k. refl) (omega (arith, grown)) h.1 then_at))))
 
-  runs_calls : (c : Section) (cs ds : List Request) → MayCall c → length cs + length ds ≤ most_calls → All ValidCall ds → (at : ℕ) → Runs at (at_calls c cs) (map call ds) (at_calls (section_after c section.Calls ds) (cs ++ ds))
+  runs_calls : (c : Section) (cs ds : List Request) → MayCall c → length cs + length ds ≤ most_calls → AllByRecursion ValidCall ds → (at : ℕ) → Runs at (at_calls c cs) (map call ds) (at_calls (section_after c section.Calls ds) (cs ++ ds))
   runs_calls c cs [] may l h at = subst (λ x. Runs at (at_calls c cs) [] (at_calls c x)) (sym (append-nil cs)) stop
   runs_calls c cs (r ∷ ds) may l h at =
       let grown = length-append cs (r ∷ []) in

@@ -1,6 +1,6 @@
 -- Files, and what the reader says of them. Assumes nothing.
 use Rattle.std.specs.Prelude.{◌≡◌, ℕ, List, [], ◌∷◌, ◌++◌, ℤ, pos, negsuc, Ok, Err, Result}
-use Rattle.std.specs.List.{AllByRecursion as All}
+use Rattle.std.specs.List.{AllByRecursion}
 use Rattle.rules.specs.declared.records.Request.{Request}
 use Rattle.rules.specs.declared.refusals.Fault.{Fault}
 use Rattle.rules.specs.declared.refusals.Refusal.TheVariants.{FieldCut, TagNotAllowed, WrongLength, CountOutside, LimitBeyond, CountsDiffer, AmountBeyond}
@@ -74,4 +74,4 @@ files =
 
 -- Every file is read as is stated.
 abbrev pub FilesHold : Type 0
-FilesHold = All (λ e. read e.bytes ≡ e.says) files
+FilesHold = AllByRecursion (λ e. read e.bytes ≡ e.says) files

@@ -1,6 +1,6 @@
 -- What a refusal of a file says. Assumes nothing.
 use Rattle.std.specs.Prelude.{◌≡◌, ℕ, suc, ◌+◌, ◌*◌, ◌<◌, ◌≤◌, true, List, [], ◌∷◌, ◌++◌, length, take, Some, None, Option, ◌≢◌, slice_index, unsigned_abs}
-use Rattle.std.specs.List.{AllByRecursion as All}
+use Rattle.std.specs.List.{AllByRecursion}
 use Rattle.rules.specs.declared.refusals.Fault.{Fault}
 use Rattle.rules.specs.declared.refusals.Refusal.TheVariants.{FileTooLong, FieldCut, TagNotAllowed, WrongLength, CountsDiffer}
 use Rattle.rules.specs.Bounds.{most_places, greatest_row, greatest_limit}
@@ -25,19 +25,19 @@ pub record CountsGood (j : Stated) : Type 0 where
 pub record Early (j : Stated) : Type 0 where
   pub counts : CountsGood j
   pub row_count : length j.rows ≤ j.last_row
-  pub rows : All ValidRow j.rows
+  pub rows : AllByRecursion ValidRow j.rows
 
 -- A valid job up to its order, its places and its calls, of which some may be missing.
 pub record Late (j : Stated) : Type 0 where
   pub counts : CountsGood j
   pub row_count : length j.rows ≡ j.last_row
-  pub rows : All ValidRow j.rows
+  pub rows : AllByRecursion ValidRow j.rows
   pub order : EachOnce j.places j.order
   pub place_count : length j.listed + length j.ladders ≤ j.places
-  pub listed : All (ValidPlace j.last_row) j.listed
-  pub ladders : All (ValidLadder j.last_row) j.ladders
+  pub listed : AllByRecursion (ValidPlace j.last_row) j.listed
+  pub ladders : AllByRecursion (ValidLadder j.last_row) j.ladders
   pub few_calls : length j.calls ≤ most_calls
-  pub calls : All ValidCall j.calls
+  pub calls : AllByRecursion ValidCall j.calls
 
 -- The front of a valid job, up to a section and no further.
 abbrev pub Front : Section → Stated → Type 0
@@ -60,7 +60,7 @@ pub record FirstFailing (ts : List (Option Fault)) (f : Fault) : Type 0 where
   pub before : List (Option Fault)
   pub after : List (Option Fault)
   pub are : ts ≡ before ++ (Some f ∷ after)
-  pub passed : All (λ t. t ≡ None) before
+  pub passed : AllByRecursion (λ t. t ≡ None) before
 
 -- The tag of a field, as its head gives it.
 abbrev pub tag_in : List ℕ → ℕ

@@ -1,6 +1,6 @@
 -- The theorems on job files. Assumes nothing.
 use Rattle.std.specs.Prelude.{◌≡◌, ℕ, ◌^◌, ◌<◌, List, Ok, Err}
-use Rattle.std.specs.List.{AllByRecursion as All}
+use Rattle.std.specs.List.{AllByRecursion}
 use Rattle.rules.specs.declared.refusals.Fault.{Fault}
 use Rattle.rules.specs.Catalogues.{SoundMeaning}
 use Rattle.rules.specs.Openings.{Faultless}
@@ -12,11 +12,11 @@ use Rattle.jobfile.specs.Opened.{stated_sheet, stated_meaning}
 
 -- A file is accepted as a job exactly when it states that job.
 abbrev pub ReadLaw : Type 0
-ReadLaw = (bs : List ℕ) → All (λ b. b < 2 ^ 8) bs → (j : Stated) → (read bs ≡ Ok j → States bs j) × (States bs j → read bs ≡ Ok j)
+ReadLaw = (bs : List ℕ) → AllByRecursion (λ b. b < 2 ^ 8) bs → (j : Stated) → (read bs ≡ Ok j → States bs j) × (States bs j → read bs ≡ Ok j)
 
 -- A file that is refused is refused for the reason that its fault names.
 abbrev pub RefusedLaw : Type 0
-RefusedLaw = (bs : List ℕ) → All (λ b. b < 2 ^ 8) bs → (f : Fault) → read bs ≡ Err f → Refused bs f
+RefusedLaw = (bs : List ℕ) → AllByRecursion (λ b. b < 2 ^ 8) bs → (f : Fault) → read bs ≡ Err f → Refused bs f
 
 -- The catalogue of a job that can be stated keeps its bounds, and the job opens without a fault.
 abbrev pub OpensLaw : Type 0

@@ -1,6 +1,6 @@
 -- A ground in order has at most a line for each row and level that there can be. Assumes nothing.
 use Rattle.std.proofs.Common.{◌≡◌, ℕ, suc, ◌+◌, ◌*◌, ◌<◌, ◌≤◌, true, [], ◌∷◌, ◌++◌, length, take, drop, sym, refl, ap, ◌∙◌, arith, length-append, length-drop, length-take}
-use Rattle.std.specs.List.{AllByRecursion as All}
+use Rattle.std.specs.List.{AllByRecursion}
 use Rattle.std.proofs.ByRecursion.{All-from_get_or}
 use Rattle.std.proofs.lemmas.Bool.{and_parts, and_from}
 use Rattle.std.proofs.lemmas.Bool.Decides.{nat_tests}
@@ -13,11 +13,11 @@ use Rattle.ledger.specs.Lines.{no_line, Near, AllNear}
 use Rattle.ledger.specs.Places.{most_drafted, leads, rising}
 
 -- the order as a test, and as a fact
-led_since : (a : Line) (g : Ground) → leads a g ≡ true → All (λ b. before a b ≡ true) g
+led_since : (a : Line) (g : Ground) → leads a g ≡ true → AllByRecursion (λ b. before a b ≡ true) g
 led_since a [] h = tt
 led_since a (b ∷ g) h = let parts = and_parts (before a b) _ h in (parts.0, led_since a g parts.1)
 
-since_led : (a : Line) (g : Ground) → All (λ b. before a b ≡ true) g → leads a g ≡ true
+since_led : (a : Line) (g : Ground) → AllByRecursion (λ b. before a b ≡ true) g → leads a g ≡ true
 since_led a [] h = refl
 since_led a (b ∷ g) h = and_from (before a b) _ h.0 (since_led a g h.1)
 
@@ -36,22 +36,22 @@ key l = l.row * suc most_places + l.level
 key_rises : (a b : Line) → Near a → before a b ≡ true → suc (key a) ≤ key b
 key_rises a b h first = grind (arith, nat_tests)
 
-keys_rise : (a : Line) (g : Ground) → Near a → All (λ b. before a b ≡ true) g → All (λ b. suc (key a) ≤ key b) g
+keys_rise : (a : Line) (g : Ground) → Near a → AllByRecursion (λ b. before a b ≡ true) g → AllByRecursion (λ b. suc (key a) ≤ key b) g
 keys_rise a [] h all = tt
 keys_rise a (b ∷ g) h all = (key_rises a b h all.0, keys_rise a g h all.1)
 
-few_from : (g : Ground) (k : ℕ) → Ordered g → All Near g → All (λ b. k ≤ key b) g → k ≤ most_drafted → length g + k ≤ most_drafted
+few_from : (g : Ground) (k : ℕ) → Ordered g → AllByRecursion Near g → AllByRecursion (λ b. k ≤ key b) g → k ≤ most_drafted → length g + k ≤ most_drafted
 few_from [] k ordered range low most = omega arith
 few_from (a ∷ g) k ordered range low most =
     let row = range.0.0 in
     let level = range.0.1 in
     let rest = few_from g (suc (key a)) ordered.1 range.1 (keys_rise a g range.0 ordered.0) (omega arith) in omega (arith, low.0)
 
-any_key : (g : Ground) → All (λ b. 0 ≤ key b) g
+any_key : (g : Ground) → AllByRecursion (λ b. 0 ≤ key b) g
 any_key [] = tt
 any_key (b ∷ g) = (omega arith, any_key g)
 
-few_lines : (g : Ground) → Ordered g → All Near g → length g ≤ most_drafted
+few_lines : (g : Ground) → Ordered g → AllByRecursion Near g → length g ≤ most_drafted
 few_lines g ordered range = let few = few_from g 0 ordered range (any_key g) (omega arith) in omega arith
 
 -- a ground with one line more is in order, and the table has space for it

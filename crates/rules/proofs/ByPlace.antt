@@ -1,6 +1,6 @@
 -- What the rules say by position, said by place. Assumes nothing.
 use Rattle.std.proofs.Common.{◌≡◌, ℕ, zero, suc, ◌-◌, ◌<◌, ◌≤◌, false, List, [], ◌∷◌, length, get_or, pos, ◌-ℤ◌, nat_abs, ◌≤ℤ◌, Some, None, Option, sym, refl, ap, ◌∙◌, subst, ap₂, inl, inr, arith, length-append}
-use Rattle.std.specs.List.{AllByRecursion as All}
+use Rattle.std.specs.List.{AllByRecursion}
 use Rattle.std.proofs.lemmas.List.{get_or_append_left, get_or-append_right}
 use Rattle.std.proofs.ByRecursion.{All-weaker}
 use Rattle.std.proofs.lemmas.Bool.{cases_lt}
@@ -68,7 +68,7 @@ module _ (m : Meaning) (w : SoundMeaning m) (s : Sheet) (f : Faultless m s) wher
       total_in_order (offer m s) (order_of s) f.order row (found_laws (kind_numbered (kind_of s row))) (version d)
       ∙ joined_same (joining_of s row) _ _ s.places (λ q a b. let k = h.1 q a b in amount_agree row q (version d q) r a b k.0 k.1)
 
-  in_range : All (λ x. (1 ≤ x) × (x ≤ s.places)) (order_of s)
+  in_range : AllByRecursion (λ x. (1 ≤ x) × (x ≤ s.places)) (order_of s)
   in_range = (once_fine s.places (order_of s) f.order).0
 
   -- a choice by position is one by place
@@ -129,7 +129,7 @@ module _ (m : Meaning) (w : SoundMeaning m) (s : Sheet) (f : Faultless m s) wher
   place_there : (p : ℕ) → 1 ≤ p → p ≤ s.places → (1 ≤ place_at (order_of s) p) × (place_at (order_of s) p ≤ s.places)
   place_there p a b = all_at (order_of s) (p - 1) (omega (arith, f.order.0)) in_range
     where
-      all_at : (xs : List ℕ) (i : ℕ) → i < length xs → All (λ x. (1 ≤ x) × (x ≤ s.places)) xs → (1 ≤ get_or xs i 0) × (get_or xs i 0 ≤ s.places)
+      all_at : (xs : List ℕ) (i : ℕ) → i < length xs → AllByRecursion (λ x. (1 ≤ x) × (x ≤ s.places)) xs → (1 ≤ get_or xs i 0) × (get_or xs i 0 ≤ s.places)
       all_at [] i h a = absurd (omega arith)
       all_at (x ∷ xs) zero h a = a.0
       all_at (x ∷ xs) (suc i) h a = all_at xs i (omega arith) a.1

@@ -1,6 +1,6 @@
 -- What the promises say by place, said by position: choices, the cheapest of them, and what closes a list of limits. Assumes nothing.
 use Rattle.std.proofs.Common.{◌≡◌, ℕ, ◌+◌, ◌*◌, ◌≤◌, true, false, length, pos, ◌-ℤ◌, nat_abs, ◌≤ℤ◌, Some, None, Option}
-use Rattle.std.specs.List.{AllByRecursion as All}
+use Rattle.std.specs.List.{AllByRecursion}
 use Rattle.rules.specs.declared.lines.Line.{Line}
 use Rattle.rules.specs.Bounds.{amount_reach}
 use Rattle.rules.specs.Sheets.{Limits}
@@ -23,7 +23,7 @@ module _ (S : Setting) where
 
   -- each constant of a ground is worse than its row's limit
   abbrev pub LinesStandAt : Limits → Ground → Type 0
-  LinesStandAt M g = All (λ l. (S.joining l.row).worse l.constant (M l.row) ≡ true) g
+  LinesStandAt M g = AllByRecursion (λ l. (S.joining l.row).worse l.constant (M l.row) ≡ true) g
 
   -- the limits with the cap one under the price of the choice named, if any
   abbrev pub one_under : Limits → Option Part → Limits

@@ -1,6 +1,6 @@
 -- What every call keeps, along every history, by position. Assumes nothing.
 use Rattle.std.proofs.Common.{◌≡◌, ℕ, suc, ◌+◌, ◌*◌, ◌<◌, ◌⊎◌, List, ◌∷◌, ℤ, pos, Some, None, Option, refl, ap, ◌∙◌, subst, inl, inr, arith}
-use Rattle.std.specs.List.{AllByRecursion as All}
+use Rattle.std.specs.List.{AllByRecursion}
 use Rattle.std.proofs.lemmas.Bool.{cases_lt}
 use Rattle.rules.specs.declared.refusals.Refusal.{Refusal}
 use Rattle.rules.specs.Sheets.{Limits}
@@ -57,8 +57,8 @@ module _ (S : Setting) where
 
   -- what every call keeps of a job whose last search began with these grounds
   abbrev pub Kept : List Ground → List Entry → Job → Type 0
-  Kept began es (closed L gs v) = All (Learnable S) gs × Space gs × VerdictRight L es v
-  Kept began es (running L σ) = All (Learnable S) began × Space began × Runs S L σ.steps (start S L began) σ × (σ.steps ≡ steps_run es)
+  Kept began es (closed L gs v) = AllByRecursion (Learnable S) gs × Space gs × VerdictRight L es v
+  Kept began es (running L σ) = AllByRecursion (Learnable S) began × Space began × Runs S L σ.steps (start S L began) σ × (σ.steps ≡ steps_run es)
 
   module _ (W : SoundSetting S) where
     pub invariant : (L : Limits) (began : List Ground) (es : List Entry) (σ : State) → Kept began es (running L σ) → Invariant S W L σ
@@ -99,7 +99,7 @@ module _ (S : Setting) where
     all_kept {es = es} {j = k} (called {es = fs} {j = j} {c = c} {a = a} h d) = keeps (began_with S h) fs j c a k (all_kept h) d
 
     -- the learned grounds of a job
-    pub held : (began : List Ground) (es : List Entry) (j : Job) → Kept began es j → All (Learnable S) (learned_of j) × Space (learned_of j)
+    pub held : (began : List Ground) (es : List Entry) (j : Job) → Kept began es j → AllByRecursion (Learnable S) (learned_of j) × Space (learned_of j)
     held b es (closed L gs v) h = (h.0, h.1)
     held b es (running L σ) h = let i : Invariant S W L σ = invariant L b es σ h in (i.learnable, i.space)
 

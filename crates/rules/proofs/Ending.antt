@@ -1,7 +1,7 @@
 -- What an ended search says is right. Assumes nothing.
 use Rattle.std.proofs.Common.{◌≡◌, ℕ, ◌≤◌, true, false, eqb, leb, [], ◌∷◌, ℤ, pos, ◌-ℤ◌, ◌<ℤ◌, Some, None, Option, sym, refl, ap, ◌∙◌, subst, inl, inr, arith}
 use lib.Signed.{lt_z}
-use Rattle.std.specs.List.{AllByRecursion as All}
+use Rattle.std.specs.List.{AllByRecursion}
 use Rattle.std.proofs.lemmas.Int.{ints, by_lt_z}
 use Rattle.std.proofs.ByRecursion.{All-weaker}
 use Rattle.std.proofs.lemmas.Bool.{cond-false, and_parts, and_from, le-leb, leb-true, cases_eq, ne_eqb}
@@ -21,7 +21,7 @@ module _ (S : Setting) where
   abbrev Top : Line → Type 0
   Top l = S.places ≤ l.level
 
-  top_lines : (M : Limits) (g : Ground) → stands S M [] g ≡ true → All Top g
+  top_lines : (M : Limits) (g : Ground) → stands S M [] g ≡ true → AllByRecursion Top g
   top_lines M [] h = tt
   top_lines M (l ∷ g) h =
       let parts = and_parts _ _ h in
@@ -36,7 +36,7 @@ module _ (S : Setting) where
       ((and_parts (leb (open_places S []) l.level) _ parts.0).1, at_limits M g parts.1)
 
   -- and a ground that stands at limits stands at every choice
-  at_choice : (M : Limits) (c : Part) (g : Ground) → All Top g → LinesStandAt S M g → stands S M c g ≡ true
+  at_choice : (M : Limits) (c : Part) (g : Ground) → AllByRecursion Top g → LinesStandAt S M g → stands S M c g ≡ true
   at_choice M c [] top h = refl
   at_choice M c (l ∷ g) top h =
       let high : S.places ≤ l.level = top.0 in

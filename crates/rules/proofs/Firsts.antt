@@ -1,6 +1,6 @@
 -- The first ground that stands, and what keeps it standing. Assumes nothing.
 use Rattle.std.proofs.Common.{◌≡◌, ℕ, ◌≤◌, true, false, leb, List, [], ◌∷◌, ◌++◌, ℤ, is_some, Some, None, Option, refl, ap, subst, arith}
-use Rattle.std.specs.List.{AllByRecursion as All}
+use Rattle.std.specs.List.{AllByRecursion}
 use Rattle.std.proofs.lemmas.Bool.{cond-true, cond-false, cond_both, and_parts, and_from, le-leb, leb-true}
 use Rattle.rules.specs.Sheets.{Limits}
 use Rattle.rules.specs.Grounds.{Ground, Part, Setting, blocked, first_standing, open_places, stands}
@@ -22,7 +22,7 @@ none_of (Some x) h = clash {b = true} refl h
 
 module _ (S : Setting) where
   -- a ground that is first to stand stands, and is what all of the list are
-  pub first_holds : (P : Ground → Type 0) (L : Limits) (s : Part) (gs : List Ground) → All P gs → Holds (λ g. P g × (stands S L s g ≡ true)) (first_standing S L gs s)
+  pub first_holds : (P : Ground → Type 0) (L : Limits) (s : Part) (gs : List Ground) → AllByRecursion P gs → Holds (λ g. P g × (stands S L s g ≡ true)) (first_standing S L gs s)
   first_holds P L s [] h = tt
   first_holds P L s (g ∷ gs) h =
       cond_both (stands S L s g) (Some g) (first_standing S L gs s) (Holds (λ g. P g × (stands S L s g ≡ true)))

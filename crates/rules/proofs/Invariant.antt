@@ -2,7 +2,7 @@
 use Rattle.std.proofs.Common.{◌≡◌, ℕ, zero, suc, ◌+◌, ◌<◌, ◌≤◌, Bool, true, false, eqb, ltb, leb, List, [], ◌∷◌, ◌++◌, length, replicate, ℤ, pos, ◌-ℤ◌, Some, None, Option, sym, refl, ap, ◌∙◌, subst, inl, inr, append_assoc, arith, length-append}
 use lib.Signed.{lt_z}
 use lib.ListN.{length-replicate}
-use Rattle.std.specs.List.{AllByRecursion as All}
+use Rattle.std.specs.List.{AllByRecursion}
 use Rattle.std.proofs.ByRecursion.{All-append}
 use Rattle.std.proofs.lemmas.Int.{ints}
 use Rattle.std.proofs.lemmas.Bool.{cond-false, and_parts, and_from, le-leb, leb-true, cases_lt, cases_eq, ne_eqb, ltb-true}
@@ -76,12 +76,12 @@ module _ (S : Setting) where
   module _ (W : SoundSetting S) (L : Limits) where
     pub record Invariant (σ : State) : Type 0 where
       pub proper : Proper S σ.part
-      pub learnable : All (Learnable S) σ.learned
+      pub learnable : AllByRecursion (Learnable S) σ.learned
       pub passed : Passed (stopped S L σ) σ.part
       pub best : BestSoFar L σ.best σ.cap
       pub space : Space σ.learned
 
-    pub start_invariant : (learned : List Ground) → All (Learnable S) learned → Space learned → Invariant (start S L learned)
+    pub start_invariant : (learned : List Ground) → AllByRecursion (Learnable S) learned → Space learned → Invariant (start S L learned)
     start_invariant learned h sp =
         record {
           proper = ones_proper W S.places (omega arith);
@@ -166,7 +166,7 @@ module _ (S : Setting) where
         (blocked_left S (in_force S L σ) s (ledger S σ.learned) (g ∷ []) h)
 
     -- and what is learned at a part-choice stands there
-    pub learned_stops : (σ : State) (t : Part) → All (Learnable S) σ.learned → length t < S.places → ((x : ℕ) → 1 ≤ x → x ≤ S.versions (open_places S t) → stopped S L σ (x ∷ t) ≡ true) → stopped S L (with_ground σ t (ground_at S L σ t)) t ≡ true
+    pub learned_stops : (σ : State) (t : Part) → AllByRecursion (Learnable S) σ.learned → length t < S.places → ((x : ℕ) → 1 ≤ x → x ≤ S.versions (open_places S t) → stopped S L σ (x ∷ t) ≡ true) → stopped S L (with_ground σ t (ground_at S L σ t)) t ≡ true
     learned_stops σ t h small all =
         let g : Ground = ground_at S L σ t in
         subst (λ gs. blocked S (in_force S L σ) gs t ≡ true) (append_assoc (starting S S.last_row) σ.learned (g ∷ []))
@@ -174,7 +174,7 @@ module _ (S : Setting) where
         (blocked_here S (in_force S L σ) t g [] (learn_stands S W (in_force S L σ) (ledger S σ.learned) (ledger_learnable S σ.learned h) t small all)))
 
     -- the ground learned where no version is free
-    one_more_learnable : (σ : State) (t : Part) → Invariant σ → length t < S.places → ((x : ℕ) → 1 ≤ x → x ≤ S.versions (open_places S t) → stopped S L σ (x ∷ t) ≡ true) → All (Learnable S) (σ.learned ++ (ground_at S L σ t ∷ []))
+    one_more_learnable : (σ : State) (t : Part) → Invariant σ → length t < S.places → ((x : ℕ) → 1 ≤ x → x ≤ S.versions (open_places S t) → stopped S L σ (x ∷ t) ≡ true) → AllByRecursion (Learnable S) (σ.learned ++ (ground_at S L σ t ∷ []))
     one_more_learnable σ t i small all =
         All-append (Learnable S) σ.learned _ i.learnable
         (learn_learnable S W (in_force S L σ) (ledger S σ.learned) (ledger_learnable S σ.learned i.learnable) t small all, tt)

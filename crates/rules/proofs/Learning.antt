@@ -1,6 +1,6 @@
 -- A learned ground: it rules out only what breaks a limit, and it stands where it is learned. Assumes nothing.
 use Rattle.std.proofs.Common.{◌≡◌, ℕ, zero, suc, pred, ◌<◌, ◌≤◌, true, false, eqb, leb, List, [], ◌∷◌, map, length, is_some, Some, None, Option, sym, refl, ap, ◌∙◌, subst, inl, inr, arith}
-use Rattle.std.specs.List.{AllByRecursion as All}
+use Rattle.std.specs.List.{AllByRecursion}
 use Rattle.std.proofs.ByRecursion.{All-append}
 use Rattle.std.proofs.lemmas.Bool.{cond-true, cond-false, cond_both, and_parts, and_from, eqb-true, eqb-false, le-leb, leb-true, cases_lt}
 use Rattle.rules.specs.declared.lines.Line.{Line}
@@ -15,10 +15,10 @@ use Rattle.rules.proofs.Firsts.{Holds, first_holds}
 module _ (S : Setting) where
   -- a ground whose rows are the setting's, and that stands, at whatever limits, only at choices that break them
   pub record Sound (g : Ground) : Type 0 where
-    pub known : All (Known S) g
+    pub known : AllByRecursion (Known S) g
     pub rules_out : (M : Limits) (c : Part) → Complete S c → stands S M c g ≡ true → PartKeeps S M c → ⊥
 
-  moved_known : (t : Part) (v : ℕ) (ls : List Line) → All (Known S) ls → All (Known S) (map (moved S t v) ls)
+  moved_known : (t : Part) (v : ℕ) (ls : List Line) → AllByRecursion (Known S) ls → AllByRecursion (Known S) (map (moved S t v) ls)
   moved_known t v [] h = tt
   moved_known t v (l ∷ ls) h =
       (cond_both (eqb (suc l.level) (open_places S t)) _ l (Known S) (λ _. h.0) (λ _. h.0), moved_known t v ls h.1)
@@ -40,7 +40,7 @@ module _ (S : Setting) where
         and_from (leb (open_places S c) l.level) _ (le-leb _ _ (omega arith)) (subst (λ x. (S.joining l.row).worse x (M l.row) ≡ true) (sym value) h₁.1))
         (λ d. subst (λ x. line_stands S M c x ≡ true) (cond-false _ _ _ d) h)
 
-    all_moved_give : (M : Limits) (c : Part) (t : Part) (p : ℕ) → length c ≡ S.places → open_places S t ≡ suc p → (hv : HasVersion S p c) → (ls : List Line) → All (Known S) ls → stands S M c (map (moved S t hv.version) ls) ≡ true → stands S M c ls ≡ true
+    all_moved_give : (M : Limits) (c : Part) (t : Part) (p : ℕ) → length c ≡ S.places → open_places S t ≡ suc p → (hv : HasVersion S p c) → (ls : List Line) → AllByRecursion (Known S) ls → stands S M c (map (moved S t hv.version) ls) ≡ true → stands S M c ls ≡ true
     all_moved_give M c t p full e hv [] k h = refl
     all_moved_give M c t p full e hv (l ∷ ls) k h =
         let parts = and_parts _ _ h in
@@ -48,7 +48,7 @@ module _ (S : Setting) where
 
     -- a ground for each version of the place set next after t
     module _ (t : Part) (pick : ℕ → Ground) where
-      up_to_known : (k : ℕ) → ((v : ℕ) → 1 ≤ v → v ≤ k → All (Known S) (pick v)) → All (Known S) (learned_up_to S t pick k)
+      up_to_known : (k : ℕ) → ((v : ℕ) → 1 ≤ v → v ≤ k → AllByRecursion (Known S) (pick v)) → AllByRecursion (Known S) (learned_up_to S t pick k)
       up_to_known zero h = tt
       up_to_known (suc k) h =
           with_lines_known S (map (moved S t (suc k)) (pick (suc k))) (learned_up_to S t pick k)
@@ -56,7 +56,7 @@ module _ (S : Setting) where
           (up_to_known k (λ v p q. h v p (omega arith)))
 
       -- where the learned ground stands, so do the moved lines of each version
-      up_to_gives : (M : Limits) (c : Part) (k : ℕ) → ((v : ℕ) → 1 ≤ v → v ≤ k → All (Known S) (pick v)) → stands S M c (learned_up_to S t pick k) ≡ true → (v : ℕ) → 1 ≤ v → v ≤ k → stands S M c (map (moved S t v) (pick v)) ≡ true
+      up_to_gives : (M : Limits) (c : Part) (k : ℕ) → ((v : ℕ) → 1 ≤ v → v ≤ k → AllByRecursion (Known S) (pick v)) → stands S M c (learned_up_to S t pick k) ≡ true → (v : ℕ) → 1 ≤ v → v ≤ k → stands S M c (map (moved S t v) (pick v)) ≡ true
       up_to_gives M c zero known h v a b = absurd (omega arith)
       up_to_gives M c (suc k) known h v a b =
           let parts = with_lines_gives S W M c (map (moved S t (suc k)) (pick (suc k))) (learned_up_to S t pick k) (moved_known t (suc k) (pick (suc k)) (known (suc k) (omega arith) (omega arith))) h in
@@ -101,13 +101,13 @@ module _ (S : Setting) where
           let far : open_places S t ≤ l.level = omega (arith, eqb-false _ _ d) in
           and_from (leb (open_places S t) l.level) _ (le-leb _ _ far) (subst (λ x. (S.joining r).worse x (L r) ≡ true) (joined_off S r l.level l.constant v t far) parts.1))
 
-      all_moved_stand : (L : Limits) (v : ℕ) (ls : List Line) → length t < S.places → All (Known S) ls → stands S L (v ∷ t) ls ≡ true → stands S L t (map (moved S t v) ls) ≡ true
+      all_moved_stand : (L : Limits) (v : ℕ) (ls : List Line) → length t < S.places → AllByRecursion (Known S) ls → stands S L (v ∷ t) ls ≡ true → stands S L t (map (moved S t v) ls) ≡ true
       all_moved_stand L v [] small k h = refl
       all_moved_stand L v (l ∷ ls) small k h =
           let parts = and_parts _ _ h in
           and_from _ _ (moved_stands L v l small k.0 parts.0) (all_moved_stand L v ls small k.1 parts.1)
 
-      up_to_stands : (L : Limits) → length t < S.places → (k : ℕ) → ((v : ℕ) → 1 ≤ v → v ≤ k → All (Known S) (pick v) × (stands S L (v ∷ t) (pick v) ≡ true)) → stands S L t (learned_up_to S t pick k) ≡ true
+      up_to_stands : (L : Limits) → length t < S.places → (k : ℕ) → ((v : ℕ) → 1 ≤ v → v ≤ k → AllByRecursion (Known S) (pick v) × (stands S L (v ∷ t) (pick v) ≡ true)) → stands S L t (learned_up_to S t pick k) ≡ true
       up_to_stands L small zero h = refl
       up_to_stands L small (suc k) h =
           let here = h (suc k) (omega arith) (omega arith) in
@@ -116,7 +116,7 @@ module _ (S : Setting) where
           (up_to_stands L small k (λ v p q. h v p (omega arith)))
 
       -- learned from grounds that stand with each version set, a ground stands there
-      pub learn_from_stands : (L : Limits) → length t < S.places → ((v : ℕ) → 1 ≤ v → v ≤ S.versions (open_places S t) → All (Known S) (pick v) × (stands S L (v ∷ t) (pick v) ≡ true)) → stands S L t (learn_from S t pick) ≡ true
+      pub learn_from_stands : (L : Limits) → length t < S.places → ((v : ℕ) → 1 ≤ v → v ≤ S.versions (open_places S t) → AllByRecursion (Known S) (pick v) × (stands S L (v ∷ t) (pick v) ≡ true)) → stands S L t (learn_from S t pick) ≡ true
       unfolding learn_from
       learn_from_stands L small h = up_to_stands L small (S.versions (open_places S t)) h
 
@@ -127,11 +127,11 @@ module _ (S : Setting) where
         rules_out = λ M c ch st keeps. clash (and_parts (leb (open_places S c) 0) _ (and_parts _ _ st).0).1 (keeps r h);
       }
 
-  starting_learnable : (r : ℕ) → r ≤ S.last_row → All (Learnable S) (starting S r)
+  starting_learnable : (r : ℕ) → r ≤ S.last_row → AllByRecursion (Learnable S) (starting S r)
   starting_learnable zero h = (from_row 0 h, tt)
   starting_learnable (suc r) h = All-append (Learnable S) (starting S r) _ (starting_learnable r (omega arith)) (from_row (suc r) h, tt)
 
-  pub ledger_learnable : (learned : List Ground) → All (Learnable S) learned → All (Learnable S) (ledger S learned)
+  pub ledger_learnable : (learned : List Ground) → AllByRecursion (Learnable S) learned → AllByRecursion (Learnable S) (ledger S learned)
   ledger_learnable learned h = All-append (Learnable S) (starting S S.last_row) learned (starting_learnable S.last_row (omega arith)) h
 
   module _ (W : SoundSetting S) where
@@ -141,7 +141,7 @@ module _ (S : Setting) where
     learnable_sound (by_learning t pick small all) = learn_from_sound W t pick small (λ v p q. learnable_sound (all v p q))
 
     -- the ground learned where no version is free
-    module _ (L : Limits) (gs : List Ground) (learnable : All (Learnable S) gs) (t : Part) (small : length t < S.places) (all : (v : ℕ) → 1 ≤ v → v ≤ S.versions (open_places S t) → blocked S L gs (v ∷ t) ≡ true) where
+    module _ (L : Limits) (gs : List Ground) (learnable : AllByRecursion (Learnable S) gs) (t : Part) (small : length t < S.places) (all : (v : ℕ) → 1 ≤ v → v ≤ S.versions (open_places S t) → blocked S L gs (v ∷ t) ≡ true) where
       standing_in : (s : Part) (o : Option Ground) → is_some o ≡ true → Holds (λ g. Learnable S g × (stands S L s g ≡ true)) o → Learnable S (ground_in o) × (stands S L s (ground_in o) ≡ true)
       standing_in s None b h = clash {b = false} b refl
       standing_in s (Some g) b h = h

@@ -1,6 +1,6 @@
 -- A learned ground, told by its lines. Assumes nothing.
 use Rattle.std.proofs.Common.{◌≡◌, ℕ, zero, suc, ◌≤◌, true, false, eqb, List, [], ◌∷◌, map, sym, refl, ap, ◌∙◌, subst, inl, inr, arith}
-use Rattle.std.specs.List.{AllByRecursion as All}
+use Rattle.std.specs.List.{AllByRecursion}
 use Rattle.std.proofs.lemmas.Bool.{cond_both, and_parts, eqb-true, cases_lt}
 use Rattle.rules.specs.declared.lines.Line.{Line}
 use Rattle.rules.specs.Sheets.{Any}
@@ -17,15 +17,15 @@ any_weaker P Q f (x ∷ xs) (inl h) = inl (f x h)
 any_weaker P Q f (x ∷ xs) (inr h) = inr (any_weaker P Q f xs h)
 
 -- each element is in the list
-all_in : {A : Type 0} (P : A → Type 0) (xs : List A) → ((x : A) → Any (λ y. x ≡ y) xs → P x) → All P xs
+all_in : {A : Type 0} (P : A → Type 0) (xs : List A) → ((x : A) → Any (λ y. x ≡ y) xs → P x) → AllByRecursion P xs
 all_in P [] h = tt
 all_in P (x ∷ xs) h = (h x (inl refl), all_in P xs (λ y k. h y (inr k)))
 
-all_map : {A B : Type 0} (f : A → B) (P : B → Type 0) (xs : List A) → All (λ x. P (f x)) xs → All P (map f xs)
+all_map : {A B : Type 0} (f : A → B) (P : B → Type 0) (xs : List A) → AllByRecursion (λ x. P (f x)) xs → AllByRecursion P (map f xs)
 all_map f P [] h = tt
 all_map f P (x ∷ xs) h = (h.0, all_map f P xs h.1)
 
-all_unmap : {A B : Type 0} (f : A → B) (P : B → Type 0) (xs : List A) → All P (map f xs) → All (λ x. P (f x)) xs
+all_unmap : {A B : Type 0} (f : A → B) (P : B → Type 0) (xs : List A) → AllByRecursion P (map f xs) → AllByRecursion (λ x. P (f x)) xs
 all_unmap f P [] h = tt
 all_unmap f P (x ∷ xs) h = (h.0, all_unmap f P xs h.1)
 
@@ -76,16 +76,16 @@ module _ (S : Setting) (W : SoundSetting S) where
       (λ d. elim m [ inl z ↦ inl (kept_second a b k h d z) | inr z ↦ inr z ])
       (λ d. elim m [ inl z ↦ inl z | inr z ↦ inr (covered_still a k g h z) ]))
 
-  lines_still : (ls : List Line) (k : Line) (g : Ground) → All (Known S) ls → Covered g k → Covered (with_lines S ls g) k
+  lines_still : (ls : List Line) (k : Line) (g : Ground) → AllByRecursion (Known S) ls → Covered g k → Covered (with_lines S ls g) k
   lines_still [] k g h m = m
   lines_still (a ∷ ls) k g h m = lines_still ls k (with_line S a g) h.1 (covered_still a k g h.0 m)
 
-  lines_new : (ls : List Line) (g : Ground) → All (Known S) ls → All (Covered (with_lines S ls g)) ls
+  lines_new : (ls : List Line) (g : Ground) → AllByRecursion (Known S) ls → AllByRecursion (Covered (with_lines S ls g)) ls
   lines_new [] g h = tt
   lines_new (a ∷ ls) g h = (lines_still ls a (with_line S a g) h.1 (covered_new a g h.0), lines_new ls (with_line S a g) h.1)
 
   module _ (t : Part) (pick : ℕ → Ground) where
-    moved_known : (v : ℕ) (ls : List Line) → All (Known S) ls → All (Known S) (map (moved S t v) ls)
+    moved_known : (v : ℕ) (ls : List Line) → AllByRecursion (Known S) ls → AllByRecursion (Known S) (map (moved S t v) ls)
     moved_known v [] h = tt
     moved_known v (l ∷ ls) h = (cond_both (eqb (suc l.level) (open_places S t)) _ l (Known S) (λ _. h.0) (λ _. h.0), moved_known v ls h.1)
 
@@ -96,7 +96,7 @@ module _ (S : Setting) (W : SoundSetting S) where
     abbrev From : ℕ → Line → Type 0
     From n l = (v : ℕ) × (1 ≤ v) × (v ≤ n) × Any (λ k. l ≡ moved S t v k) (pick v)
 
-    up_to_from : (n k : ℕ) → k ≤ n → All (From n) (learned_up_to S t pick k)
+    up_to_from : (n k : ℕ) → k ≤ n → AllByRecursion (From n) (learned_up_to S t pick k)
     up_to_from n zero h = tt
     up_to_from n (suc k) h =
         with_lines_all S (From n) (map (moved S t (suc k)) (pick (suc k))) (learned_up_to S t pick k)
@@ -105,20 +105,20 @@ module _ (S : Setting) (W : SoundSetting S) where
         (λ x m. (suc k, omega arith, h, any_weaker (λ y. x ≡ y) (λ y. moved S t (suc k) x ≡ moved S t (suc k) y) (λ y e. ap (moved S t (suc k)) e) (pick (suc k)) m))))
         (up_to_from n k (omega arith))
 
-    up_to_replaced : (k : ℕ) → ((v : ℕ) → 1 ≤ v → v ≤ k → All (Known S) (pick v)) → (v : ℕ) → 1 ≤ v → v ≤ k → All (Covered (learned_up_to S t pick k)) (map (moved S t v) (pick v))
+    up_to_replaced : (k : ℕ) → ((v : ℕ) → 1 ≤ v → v ≤ k → AllByRecursion (Known S) (pick v)) → (v : ℕ) → 1 ≤ v → v ≤ k → AllByRecursion (Covered (learned_up_to S t pick k)) (map (moved S t v) (pick v))
     up_to_replaced zero known v a b = absurd (omega arith)
     up_to_replaced (suc k) known v a b =
         let ls : List Line = map (moved S t (suc k)) (pick (suc k)) in
-        let here : All (Known S) ls = moved_known (suc k) (pick (suc k)) (known (suc k) (omega arith) (omega arith)) in
+        let here : AllByRecursion (Known S) ls = moved_known (suc k) (pick (suc k)) (known (suc k) (omega arith) (omega arith)) in
         elim (cases_lt k v) [
           | inl p ↦
               let e : suc k ≡ v = omega arith in
-              subst (λ x. All (Covered (learned_up_to S t pick (suc k))) (map (moved S t x) (pick x))) e (lines_new ls (learned_up_to S t pick k) here)
+              subst (λ x. AllByRecursion (Covered (learned_up_to S t pick (suc k))) (map (moved S t x) (pick x))) e (lines_new ls (learned_up_to S t pick k) here)
           | inr p ↦
               all_more (Covered (learned_up_to S t pick k)) (Covered (learned_up_to S t pick (suc k))) (λ l. lines_still ls l (learned_up_to S t pick k) here) (map (moved S t v) (pick v)) (up_to_replaced k (λ x i j. known x i (omega arith)) v a p)
         ]
       where
-        all_more : (P Q : Line → Type 0) → ((l : Line) → P l → Q l) → (xs : List Line) → All P xs → All Q xs
+        all_more : (P Q : Line → Type 0) → ((l : Line) → P l → Q l) → (xs : List Line) → AllByRecursion P xs → AllByRecursion Q xs
         all_more P Q f [] h = tt
         all_more P Q f (x ∷ xs) h = (f x h.0, all_more P Q f xs h.1)
 

@@ -1,6 +1,6 @@
 -- An opening finds a fault exactly when there is one. Assumes nothing.
 use Rattle.std.proofs.Common.{◌≡◌, ℕ, suc, ◌-◌, ◌≤◌, true, eqb, leb, List, [], ◌∷◌, length, nat_abs, is_some, None, Option, subst, inl, inr, arith}
-use Rattle.std.specs.List.{AllByRecursion as All}
+use Rattle.std.specs.List.{AllByRecursion}
 use Rattle.std.proofs.ByRecursion.{All-append}
 use Rattle.std.proofs.lemmas.Bool.{and_parts, and_from, leb-true, le-leb, eqb-true, eq-eqb, cases_lt}
 use Rattle.rules.specs.declared.refusals.Fault.{Fault}
@@ -30,7 +30,7 @@ module _ (m : Meaning) (s : Sheet) where
       let counts = test_passed _ _ all.0 in
       let c = and_parts _ _ counts in
       let d = and_parts _ _ c.1 in
-      let rows : All Passed (each_to (row_tests s) (last_row s)) = all_left Passed (each_to (row_tests s) (last_row s)) _ all.1.1 in
+      let rows : AllByRecursion Passed (each_to (row_tests s) (last_row s)) = all_left Passed (each_to (row_tests s) (last_row s)) _ all.1.1 in
       let rest = all_right Passed (each_to (row_tests s) (last_row s)) _ all.1.1 in
       let once = and_parts (eqb (length (order_of s)) s.places) (contains_all s.places (order_of s)) (test_passed _ _ rest.0) in
       let same = and_parts _ _ (test_passed _ _ rest.1.0) in
@@ -61,9 +61,9 @@ module _ (m : Meaning) (s : Sheet) where
   unfolding opening
   faultless_none f =
       let limit : (r : ℕ) → r ≤ last_row s → Passed (limit_test s r) = λ r b. passed_test _ (fault LimitBeyond) (le-leb _ _ (f.limits r b)) in
-      let rows : All Passed (each_to (row_tests s) (last_row s)) =
+      let rows : AllByRecursion Passed (each_to (row_tests s) (last_row s)) =
       each_all Passed (row_tests s) (last_row s) (λ r a b. let k = f.kinds r a b in (passed_test _ (fault UnknownKind) (subst (λ n. is_some (kind_numbered n) ≡ true) k.1 (there_kind k.0)), (limit r b, tt))) in
-      let amounts : All Passed amounts_tested =
+      let amounts : AllByRecursion Passed amounts_tested =
       each_all Passed (λ q. each_to (λ v. amount_tests m q v) (m.versions q)) m.places (λ q qa qb.
       each_all Passed (λ v. amount_tests m q v) (m.versions q) (λ v va vb.
       each_all Passed (λ k. test (leb (nat_abs (m.amount (k - 1) q v)) greatest_amount) (fault_at AmountBeyond q v (k - 1)) ∷ []) m.rows (λ k ka kb.

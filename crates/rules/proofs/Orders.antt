@@ -1,7 +1,7 @@
 -- Choices by place and by position. Assumes nothing.
 use Rattle.std.proofs.Common.{◌≡◌, ℕ, zero, suc, ◌+◌, ◌-◌, ◌<◌, ◌≤◌, eqb, List, [], ◌∷◌, ◌++◌, map, length, get_or, ℤ, sym, refl, ap, ◌∙◌, subst, ap₂, inl, inr, append_assoc, arith, length-append}
 use lib.ListN.{length-map}
-use Rattle.std.specs.List.{AllByRecursion as All}
+use Rattle.std.specs.List.{AllByRecursion}
 use Rattle.std.proofs.ByRecursion.{All-weaker}
 use Rattle.std.proofs.lemmas.Bool.{cond-true, cond-false, eq-eqb, ne_eqb}
 use Rattle.rules.specs.Joinings.{Joining, Laws, joined_over}
@@ -54,16 +54,16 @@ inserted_any here r d (inr h) = h
 inserted_any (there i) r d (inl e) = inl e
 inserted_any (there i) r d (inr h) = inr (inserted_any i r d h)
 
-inserted_all : {q : ℕ} {xs ys : List ℕ} (P : ℕ → Type 0) → Inserted q xs ys → P q → All P xs → All P ys
+inserted_all : {q : ℕ} {xs ys : List ℕ} (P : ℕ → Type 0) → Inserted q xs ys → P q → AllByRecursion P xs → AllByRecursion P ys
 inserted_all P here p h = (p, h)
 inserted_all P (there i) p h = (h.0, inserted_all P i p h.1)
 
 -- no element comes twice
 abbrev pub Distinct : List ℕ → Type 0
 Distinct [] = Unit {0}
-Distinct (x ∷ xs) = All (λ y. x ≡ y → ⊥) xs × Distinct xs
+Distinct (x ∷ xs) = AllByRecursion (λ y. x ≡ y → ⊥) xs × Distinct xs
 
-inserted_distinct : {q : ℕ} {xs ys : List ℕ} → Inserted q xs ys → All (λ y. q ≡ y → ⊥) xs → Distinct xs → Distinct ys
+inserted_distinct : {q : ℕ} {xs ys : List ℕ} → Inserted q xs ys → AllByRecursion (λ y. q ≡ y → ⊥) xs → Distinct xs → Distinct ys
 inserted_distinct here a h = (a, h)
 inserted_distinct {q} (there {x = x} i) a h = (inserted_all (λ y. x ≡ y → ⊥) i (λ e. a.0 (sym e)) h.0, inserted_distinct i a.1 h.1)
 
@@ -72,7 +72,7 @@ once_less n ys xs h i =
     (omega (arith, h.0, inserted_length i), λ q a b. inserted_any i q (λ e. omega arith) (h.1 q a (omega arith)))
 
 -- an order lists places that there are, and none twice
-pub once_fine : (n : ℕ) (ys : List ℕ) → EachOnce n ys → All (λ x. (1 ≤ x) × (x ≤ n)) ys × Distinct ys
+pub once_fine : (n : ℕ) (ys : List ℕ) → EachOnce n ys → AllByRecursion (λ x. (1 ≤ x) × (x ≤ n)) ys × Distinct ys
 once_fine zero [] h = (tt, tt)
 once_fine zero (y ∷ ys) h = absurd (omega (arith, h.0))
 once_fine (suc n) ys h =
@@ -108,7 +108,7 @@ at_seam : (pre : List ℕ) (q : ℕ) (rest : List ℕ) → get_or (pre ++ (q ∷
 at_seam [] q rest = refl
 at_seam (x ∷ pre) q rest = at_seam pre q rest
 
-pub map_same : (f g : ℕ → ℕ) (xs : List ℕ) → All (λ x. f x ≡ g x) xs → map f xs ≡ map g xs
+pub map_same : (f g : ℕ → ℕ) (xs : List ℕ) → AllByRecursion (λ x. f x ≡ g x) xs → map f xs ≡ map g xs
 map_same f g [] h = refl
 map_same f g (x ∷ xs) h = ap₂ ◌∷◌ h.0 (map_same f g xs h.1)
 
@@ -134,7 +134,7 @@ module _ (O : Offer) (order : List ℕ) (once : EachOnce O.places order) where
   rest_length : (pre rest : List ℕ) → pre ++ rest ≡ order → length rest ≤ O.places
   rest_length pre rest e = omega (arith, length-append pre rest, ap length e, once.0)
 
-  proper : (choice : ℕ → ℕ) → (pre rest : List ℕ) → pre ++ rest ≡ order → All (λ x. (1 ≤ choice x) × (choice x ≤ O.versions x)) rest → Proper (in_order O order) (map choice rest)
+  proper : (choice : ℕ → ℕ) → (pre rest : List ℕ) → pre ++ rest ≡ order → AllByRecursion (λ x. (1 ≤ choice x) × (choice x ≤ O.versions x)) rest → Proper (in_order O order) (map choice rest)
   proper choice pre [] e h = tt
   proper choice pre (q ∷ rest) e h =
       let l = length-map rest choice in (
@@ -154,13 +154,13 @@ module _ (O : Offer) (order : List ℕ) (once : EachOnce O.places order) where
       ∙ ap₂ (λ x y. (O.joining row).join x (O.amount row y (choice q))) (summed row laws choice (pre ++ (q ∷ [])) rest (more_pre pre q rest e)) (position pre q rest e (map choice rest) l)
 
   -- the versions of a choice by position are there for its places
-  pub versions_there : (choice : ℕ → ℕ) (pre rest : List ℕ) → pre ++ rest ≡ order → Proper (in_order O order) (map choice rest) → All (λ x. (1 ≤ choice x) × (choice x ≤ O.versions x)) rest
+  pub versions_there : (choice : ℕ → ℕ) (pre rest : List ℕ) → pre ++ rest ≡ order → Proper (in_order O order) (map choice rest) → AllByRecursion (λ x. (1 ≤ choice x) × (choice x ≤ O.versions x)) rest
   versions_there choice pre [] e h = tt
   versions_there choice pre (q ∷ rest) e h =
       let l = length-map rest choice in
       ((h.1, subst (λ x. choice q ≤ O.versions x) (position pre q rest e (map choice rest) l) h.2), versions_there choice (pre ++ (q ∷ [])) rest (more_pre pre q rest e) h.3)
 
-  pub any_of : (P : ℕ → Type 0) (xs : List ℕ) (q : ℕ) → All P xs → Any (λ x. x ≡ q) xs → P q
+  pub any_of : (P : ℕ → Type 0) (xs : List ℕ) (q : ℕ) → AllByRecursion P xs → Any (λ x. x ≡ q) xs → P q
   any_of P [] q h m = absurd m
   any_of P (x ∷ xs) q h (inl e) = subst P e h.0
   any_of P (x ∷ xs) q h (inr m) = any_of P xs q h.1 m

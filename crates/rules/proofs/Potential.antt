@@ -1,7 +1,7 @@
 -- A number that falls with every step, so that a search makes fewer steps than twice the number of part-choices. Assumes nothing.
 use Rattle.std.proofs.Common.{◌≡◌, ℕ, zero, suc, ◌+◌, ◌-◌, ◌*◌, ◌<◌, ◌≤◌, Bool, true, false, cond, List, [], ◌∷◌, length, replicate, sym, ap, ◌∙◌, subst, inl, inr, mul-le-mul_right, suc-mul, mul_left_comm, arith}
 use lib.ListN.{length-replicate}
-use Rattle.std.specs.List.{AllByRecursion as All}
+use Rattle.std.specs.List.{AllByRecursion}
 use Rattle.std.proofs.lemmas.Bool.{cond-true, cond-false, cases_lt}
 use Rattle.rules.specs.Sheets.{Limits}
 use Rattle.rules.specs.Grounds.{Ground, Learnable, Part, Setting, SoundSetting, open_places}
@@ -130,7 +130,7 @@ module _ (S : Setting) where
         omega (arith, runs_fall (step_invariant S W L σ τ i s) r, step_falls σ τ i s)
 
     -- a search from version 1 everywhere makes fewer steps than twice the number of part-choices
-    pub few_steps : (learned : List Ground) {k : ℕ} {τ : State} → All (Learnable S) learned → Space learned → Runs S L k (start S L learned) τ → k < 2 * parts S S.places
+    pub few_steps : (learned : List Ground) {k : ℕ} {τ : State} → AllByRecursion (Learnable S) learned → Space learned → Runs S L k (start S L learned) τ → k < 2 * parts S S.places
     unfolding potential
     few_steps learned {k} {τ} h sp r =
         let σ : State = start S L learned in

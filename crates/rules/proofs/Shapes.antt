@@ -1,6 +1,6 @@
 -- Learned grounds are well formed, and their constants are near 0. Assumes nothing.
 use Rattle.std.proofs.Common.{◌≡◌, ℕ, zero, suc, ◌+◌, ◌*◌, ◌<◌, ◌≤◌, true, false, eqb, List, [], ◌∷◌, map, length, nat_abs, sym, ap, ◌∙◌, suc-mul, arith}
-use Rattle.std.specs.List.{AllByRecursion as All}
+use Rattle.std.specs.List.{AllByRecursion}
 use Rattle.std.proofs.ByRecursion.{All-weaker}
 use Rattle.std.proofs.lemmas.Bool.Decides.{nat_tests}
 use Rattle.std.proofs.lemmas.Bool.{cond_both, eqb-true}
@@ -25,7 +25,7 @@ module _ (S : Setting) where
       cond_both (before a b) (a ∷ b ∷ g) _ (Ordered)
       (λ e. ((e, All-weaker (λ c. before b c ≡ true) (λ c. before a c ≡ true) (λ c. before_trans a b c e) g h.0), h))
       (λ e. cond_both (same_place a b) (kept S a b ∷ g) _ (Ordered)
-      (λ d. (cond_both ((S.joining a.row).worse a.constant b.constant) b a (λ x. All (λ c. before x c ≡ true) g) (λ _. h.0) (λ _. All-weaker (λ c. before b c ≡ true) (λ c. before a c ≡ true) (λ c. before_same a b c d) g h.0), h.1))
+      (λ d. (cond_both ((S.joining a.row).worse a.constant b.constant) b a (λ x. AllByRecursion (λ c. before x c ≡ true) g) (λ _. h.0) (λ _. All-weaker (λ c. before b c ≡ true) (λ c. before a c ≡ true) (λ c. before_same a b c d) g h.0), h.1))
       (λ d. (with_line_all S (λ c. before b c ≡ true) a g (before_back a b e d) h.0, ordered_with_line a g h.1)))
 
   pub ordered_with_lines : (ls : List Line) (g : Ground) → Ordered g → Ordered (with_lines S ls g)
@@ -53,12 +53,12 @@ module _ (S : Setting) where
 
   module _ (W : SoundSetting S) (B : ℕ) (near : AmountsNear S B) where
     abbrev pub Shaped : Ground → Type 0
-    Shaped g = WellFormed S g × All (Near B) g
+    Shaped g = WellFormed S g × AllByRecursion (Near B) g
 
     abbrev Fine : Line → Type 0
     Fine l = InRange l × Near B l
 
-    fine_lines : (g : Ground) → All InRange g → All (Near B) g → All Fine g
+    fine_lines : (g : Ground) → AllByRecursion InRange g → AllByRecursion (Near B) g → AllByRecursion Fine g
     fine_lines [] h k = tt
     fine_lines (l ∷ g) h k = ((h.0, k.0), fine_lines g h.1 k.1)
 
@@ -73,12 +73,12 @@ module _ (S : Setting) where
         ((h.0.0, omega arith), omega (arith, (W.laws r h.0.0).near l.constant (S.amount r (open_places S t) v), h.1)))
         (λ e. h)
 
-    all_fine_moved : (t : Part) (v : ℕ) (ls : List Line) → length t < S.places → 1 ≤ v → v ≤ S.versions (open_places S t) → All Fine ls → All Fine (map (moved S t v) ls)
+    all_fine_moved : (t : Part) (v : ℕ) (ls : List Line) → length t < S.places → 1 ≤ v → v ≤ S.versions (open_places S t) → AllByRecursion Fine ls → AllByRecursion Fine (map (moved S t v) ls)
     all_fine_moved t v [] small p q h = tt
     all_fine_moved t v (l ∷ ls) small p q h = (fine_moved t v l small p q h.0, all_fine_moved t v ls small p q h.1)
 
     module _ (t : Part) (pick : ℕ → Ground) (small : length t < S.places) where
-      up_to_fine : (k : ℕ) → k ≤ S.versions (open_places S t) → ((v : ℕ) → 1 ≤ v → v ≤ k → Shaped (pick v)) → All Fine (learned_up_to S t pick k)
+      up_to_fine : (k : ℕ) → k ≤ S.versions (open_places S t) → ((v : ℕ) → 1 ≤ v → v ≤ k → Shaped (pick v)) → AllByRecursion Fine (learned_up_to S t pick k)
       up_to_fine zero h all = tt
       up_to_fine (suc k) h all =
           let here = all (suc k) (omega arith) (omega arith) in

@@ -1,6 +1,6 @@
 -- Lines that are put together stand where each of them does. Assumes nothing.
 use Rattle.std.proofs.Common.{◌≡◌, ℕ, ◌≤◌, true, false, leb, List, [], ◌∷◌, ℤ, sym, refl, subst}
-use Rattle.std.specs.List.{AllByRecursion as All}
+use Rattle.std.specs.List.{AllByRecursion}
 use Rattle.std.proofs.lemmas.Bool.{cond-true, cond-false, cond_both, and_parts, and_from, eqb-true}
 use Rattle.rules.specs.declared.lines.Line.{Line}
 use Rattle.rules.specs.Sheets.{Limits}
@@ -73,7 +73,7 @@ module _ (S : Setting) where
         let rest = with_line_gives a g k h₂.1 in
         (rest.0, and_from _ _ h₂.0 rest.1)))
 
-    pub with_lines_gives : (ls : List Line) (g : Ground) → All Known ls → stands S L s (with_lines S ls g) ≡ true → (stands S L s ls ≡ true) × (stands S L s g ≡ true)
+    pub with_lines_gives : (ls : List Line) (g : Ground) → AllByRecursion Known ls → stands S L s (with_lines S ls g) ≡ true → (stands S L s ls ≡ true) × (stands S L s g ≡ true)
     with_lines_gives [] g k h = (refl, h)
     with_lines_gives (a ∷ ls) g k h =
         let rest = with_lines_gives ls (with_line S a g) k.1 h in
@@ -98,18 +98,18 @@ module _ (S : Setting) where
         with_lines_stand ls (with_line S a g) parts.1 (with_line_stands a g parts.0 k)
 
   -- what holds of all lines stays so
-  pub with_line_all : (P : Line → Type 0) (a : Line) (g : Ground) → P a → All P g → All P (with_line S a g)
+  pub with_line_all : (P : Line → Type 0) (a : Line) (g : Ground) → P a → AllByRecursion P g → AllByRecursion P (with_line S a g)
   with_line_all P a [] h k = (h, tt)
   with_line_all P a (b ∷ g) h k =
-      cond_both (before a b) (a ∷ b ∷ g) _ (λ x. All P x)
+      cond_both (before a b) (a ∷ b ∷ g) _ (λ x. AllByRecursion P x)
       (λ e. (h, k))
-      (λ e. cond_both (same_place a b) (kept S a b ∷ g) _ (λ x. All P x)
+      (λ e. cond_both (same_place a b) (kept S a b ∷ g) _ (λ x. AllByRecursion P x)
       (λ d. (cond_both ((S.joining a.row).worse a.constant b.constant) b a P (λ _. k.0) (λ _. h), k.1))
       (λ d. (k.0, with_line_all P a g h k.1)))
 
-  pub with_lines_all : (P : Line → Type 0) (ls : List Line) (g : Ground) → All P ls → All P g → All P (with_lines S ls g)
+  pub with_lines_all : (P : Line → Type 0) (ls : List Line) (g : Ground) → AllByRecursion P ls → AllByRecursion P g → AllByRecursion P (with_lines S ls g)
   with_lines_all P [] g h k = k
   with_lines_all P (a ∷ ls) g h k = with_lines_all P ls (with_line S a g) h.1 (with_line_all P a g h.0 k)
 
-  pub with_lines_known : (ls : List Line) (g : Ground) → All Known ls → All Known g → All Known (with_lines S ls g)
+  pub with_lines_known : (ls : List Line) (g : Ground) → AllByRecursion Known ls → AllByRecursion Known g → AllByRecursion Known (with_lines S ls g)
   with_lines_known ls g h k = with_lines_all Known ls g h k

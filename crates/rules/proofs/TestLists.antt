@@ -1,6 +1,6 @@
 -- Lists of tests, and what it says that none of them finds a fault. Assumes nothing.
 use Rattle.std.proofs.Common.{◌≡◌, ℕ, zero, suc, ◌≤◌, Bool, true, false, eqb, List, [], ◌∷◌, ◌++◌, Some, None, Option, refl, subst, inl, inr, arith}
-use Rattle.std.specs.List.{AllByRecursion as All}
+use Rattle.std.specs.List.{AllByRecursion}
 use Rattle.std.proofs.ByRecursion.{All-append}
 use Rattle.std.proofs.lemmas.Bool.{and_parts, and_from, or_cases, or_left, or_right, eqb-true, eq-eqb, cases_lt, cond-true}
 use Rattle.rules.specs.declared.refusals.Fault.{Fault}
@@ -14,12 +14,12 @@ Passed o = o ≡ None
 some_none : {A : Type 0} {x : A} → Some x ≡ None → ⊥
 some_none {A} {x} e = let z : ◌≡◌ {A = ℕ} 0 1 = cc in omega (arith, z)
 
-pub all_passed : (ts : List (Option Fault)) → first_fault ts ≡ None → All Passed ts
+pub all_passed : (ts : List (Option Fault)) → first_fault ts ≡ None → AllByRecursion Passed ts
 all_passed [] h = tt
 all_passed (Some f ∷ ts) h = absurd (some_none h)
 all_passed (None ∷ ts) h = (refl, all_passed ts h)
 
-pub none_first : (ts : List (Option Fault)) → All Passed ts → first_fault ts ≡ None
+pub none_first : (ts : List (Option Fault)) → AllByRecursion Passed ts → first_fault ts ≡ None
 none_first [] h = refl
 none_first (Some f ∷ ts) h = absurd (some_none h.0)
 none_first (None ∷ ts) h = none_first ts h.1
@@ -32,23 +32,23 @@ pub passed_test : (b : Bool) (f : Fault) → b ≡ true → Passed (test b f)
 passed_test b f e = cond-true b None (Some f) e
 
 module _ {A : Type 0} (P : A → Type 0) where
-  pub all_left : (xs ys : List A) → All P (xs ++ ys) → All P xs
+  pub all_left : (xs ys : List A) → AllByRecursion P (xs ++ ys) → AllByRecursion P xs
   all_left [] ys h = tt
   all_left (x ∷ xs) ys h = (h.0, all_left xs ys h.1)
 
-  pub all_right : (xs ys : List A) → All P (xs ++ ys) → All P ys
+  pub all_right : (xs ys : List A) → AllByRecursion P (xs ++ ys) → AllByRecursion P ys
   all_right [] ys h = h
   all_right (x ∷ xs) ys h = all_right xs ys h.1
 
-  pub each_at : (f : ℕ → List A) (k : ℕ) → All P (each_to f k) → (q : ℕ) → 1 ≤ q → q ≤ k → All P (f q)
+  pub each_at : (f : ℕ → List A) (k : ℕ) → AllByRecursion P (each_to f k) → (q : ℕ) → 1 ≤ q → q ≤ k → AllByRecursion P (f q)
   each_at f zero h q a b = absurd (omega arith)
   each_at f (suc k) h q a b =
       elim (cases_lt k q) [
-        | inl l ↦ let e : suc k ≡ q = omega arith in subst (λ x. All P (f x)) e (all_right (each_to f k) (f (suc k)) h)
+        | inl l ↦ let e : suc k ≡ q = omega arith in subst (λ x. AllByRecursion P (f x)) e (all_right (each_to f k) (f (suc k)) h)
         | inr l ↦ each_at f k (all_left (each_to f k) (f (suc k)) h) q a l
       ]
 
-  pub each_all : (f : ℕ → List A) (k : ℕ) → ((q : ℕ) → 1 ≤ q → q ≤ k → All P (f q)) → All P (each_to f k)
+  pub each_all : (f : ℕ → List A) (k : ℕ) → ((q : ℕ) → 1 ≤ q → q ≤ k → AllByRecursion P (f q)) → AllByRecursion P (each_to f k)
   each_all f zero h = tt
   each_all f (suc k) h = All-append P (each_to f k) (f (suc k)) (each_all f k (λ q a b. h q a (omega arith))) (h (suc k) (omega arith) (omega arith))
 

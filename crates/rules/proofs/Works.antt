@@ -1,7 +1,7 @@
 -- What is worked out for a list of call records is what the rules say, and right. Assumes nothing.
 use Rattle.std.proofs.Common.{◌≡◌, ℕ, List, [], ◌∷◌, ◌++◌, reverse, Some, None, Option, sym, refl, ap, ◌∙◌, subst, ap₂, append_assoc, arith}
 use mathlib.Core.List.{reverse-cons}
-use Rattle.std.specs.List.{AllByRecursion as All}
+use Rattle.std.specs.List.{AllByRecursion}
 use Rattle.std.proofs.lemmas.List.{append-nil}
 use Rattle.rules.specs.declared.records.CallRecord.{CallRecord}
 use Rattle.rules.specs.declared.records.Request.{Request}
@@ -143,7 +143,7 @@ module _ (S : Setting) where
   same_work j [] = (refl, same_end j)
   same_work j (r ∷ rs) = same_first j r rs (asked r.request) (λ i. same_work i rs)
 
-  faulty_answers : (f : Fault) (rs : List CallRecord) → All (λ r. r.answer ≡ f.number) (all_answered S (faulty f) rs)
+  faulty_answers : (f : Fault) (rs : List CallRecord) → AllByRecursion (λ r. r.answer ≡ f.number) (all_answered S (faulty f) rs)
   faulty_answers f [] = tt
   faulty_answers f (r ∷ rs) = (refl, faulty_answers f rs)
 

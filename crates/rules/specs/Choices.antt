@@ -1,7 +1,7 @@
 -- Choices of a version for each place: which keep the limits, which is cheapest, and what a closing ground says of them.
 -- Nothing here knows of positions, searches or ledgers. Assumes nothing.
 use Rattle.std.specs.Prelude.{◌≡◌, ℕ, ◌+◌, ◌-◌, ◌*◌, ◌<◌, ◌≤◌, true, false, cond, List, [], ◌∷◌, length, ℤ, pos, ◌-ℤ◌, ◌≤ℤ◌, Some, None, Option, ◌==◌, slice_index, unsigned_abs}
-use Rattle.std.specs.List.{AllByRecursion as All}
+use Rattle.std.specs.List.{AllByRecursion}
 use Rattle.rules.specs.declared.lines.ClosingLine.{ClosingLine}
 use Rattle.rules.specs.declared.sheets.Sheet.{Sheet}
 use Rattle.rules.specs.Bounds.{amount_reach, greatest_amount}
@@ -48,7 +48,7 @@ module _ (m : Meaning) (s : Sheet) where
 
   -- A closing ground stands at limits when each of its constants is worse than its row's limit.
   abbrev pub StandsAt : Limits → List ClosingLine → Type 0
-  StandsAt L g = All (λ l. (joining_of s l.row).worse l.constant (L l.row) ≡ true) g
+  StandsAt L g = AllByRecursion (λ l. (joining_of s l.row).worse l.constant (L l.row) ≡ true) g
 
   -- It closes the limits: it stands at them, and at all limits where it stands no choice keeps them.
   abbrev pub Closes : Limits → List ClosingLine → Type 0
@@ -57,14 +57,14 @@ module _ (m : Meaning) (s : Sheet) where
 -- Each row comes once, by rising number.
 abbrev pub Rising : List ClosingLine → Type 0
 Rising [] = Unit {0}
-Rising (l ∷ g) = All (λ k. l.row < k.row) g × Rising g
+Rising (l ∷ g) = AllByRecursion (λ k. l.row < k.row) g × Rising g
 
 -- The lines of a closing ground: one or more, each row once, of rows that there are, with constants near 0.
 pub record InShape (s : Sheet) (g : List ClosingLine) : Type 0 where
   pub some_line : 1 ≤ length g
   pub rising : Rising g
-  pub rows : All (λ l. l.row ≤ last_row s) g
-  pub near : All (λ l. unsigned_abs l.constant ≤ amount_reach + s.places * greatest_amount) g
+  pub rows : AllByRecursion (λ l. l.row ≤ last_row s) g
+  pub near : AllByRecursion (λ l. unsigned_abs l.constant ≤ amount_reach + s.places * greatest_amount) g
 
 -- What is said of a search: the least choice, or "none", each with the closing ground; or, of one that has not ended, "full" or "unfinished" with the best choice so far.
 pub data Told : Type 0 where

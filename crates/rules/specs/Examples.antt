@@ -1,6 +1,6 @@
 -- Worked examples of the rules. Assumes nothing.
 use Rattle.std.specs.Prelude.{◌≡◌, ℕ, ◌-◌, Bool, true, false, List, [], ◌∷◌, ℤ, pos, negsuc, Some, None, Option, slice_index_or}
-use Rattle.std.specs.List.{AllByRecursion as All}
+use Rattle.std.specs.List.{AllByRecursion}
 use Rattle.rules.specs.declared.lines.Line.{Line}
 use Rattle.rules.specs.declared.lines.ClosingLine.{ClosingLine}
 use Rattle.rules.specs.declared.records.CallRecord.{CallRecord}
@@ -128,4 +128,4 @@ examples =
 
 -- Every example comes to what is stated.
 abbrev pub ExamplesHold : Type 0
-ExamplesHold = All (λ e. e.worked ≡ e.stated) examples
+ExamplesHold = AllByRecursion (λ e. e.worked ≡ e.stated) examples

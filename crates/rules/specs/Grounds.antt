@@ -1,6 +1,6 @@
 -- Part-choices, lines and grounds: when they stand, and how a ground is learned. Assumes nothing.
 use Rattle.std.specs.Prelude.{◌≡◌, ℕ, zero, suc, ◌-◌, ◌<◌, ◌≤◌, Bool, true, cond, ◌&&◌, ◌||◌, List, [], ◌∷◌, ◌++◌, map, length, ℤ, is_some, Some, None, Option, ◌==◌, nat_le, nat_lt}
-use Rattle.std.specs.List.{AllByRecursion as All}
+use Rattle.std.specs.List.{AllByRecursion}
 use Rattle.rules.specs.declared.lines.Line.{Line}
 use Rattle.rules.specs.Joinings.{Joining, Laws, onto, sum_at_most}
 use Rattle.rules.specs.Sheets.{Limits}
@@ -42,7 +42,7 @@ same_place a b = a.row == b.row && a.level == b.level
 -- Each line comes before all later ones.
 abbrev pub Ordered : Ground → Type 0
 Ordered [] = Unit {0}
-Ordered (a ∷ g) = All (λ b. before a b ≡ true) g × Ordered g
+Ordered (a ∷ g) = AllByRecursion (λ b. before a b ≡ true) g × Ordered g
 
 -- The lines of the ground that was found, if one was.
 abbrev pub ground_in : Option Ground → Ground
@@ -152,4 +152,4 @@ module _ (S : Setting) where
   pub record WellFormed (g : Ground) : Type 0 where
     pub some_line : 1 ≤ length g
     pub ordered : Ordered g
-    pub in_range : All (λ l. (l.row ≤ S.last_row) × (l.level ≤ S.places)) g
+    pub in_range : AllByRecursion (λ l. (l.row ≤ S.last_row) × (l.level ≤ S.places)) g

@@ -1,6 +1,6 @@
 -- What is promised of a job at every time: its limits, what its searches say, their steps and their grounds. Assumes nothing.
 use Rattle.std.specs.Prelude.{◌≡◌, ◌*◌, ◌<◌, ◌≤◌, List, length, Some, None}
-use Rattle.std.specs.List.{AllByRecursion as All}
+use Rattle.std.specs.List.{AllByRecursion}
 use Rattle.rules.specs.declared.sheets.Sheet.{Sheet}
 use Rattle.rules.specs.Bounds.{most_grounds, most_lines}
 use Rattle.rules.specs.Catalogues.{Meaning}
@@ -41,7 +41,7 @@ module _ (m : Meaning) (s : Sheet) where
     -- if the last call was a run and not refused, it made as many steps as its budget, or fewer and the search has ended or is full
     pub budget : LastBudgetKept (setting m s) es j
     -- every learned ground is true at every list of limits, and all have their space in the ledger
-    pub grounds : All (TrueGround m s) (learned_of j)
+    pub grounds : AllByRecursion (TrueGround m s) (learned_of j)
     pub space : (length (learned_of j) ≤ most_grounds) × (line_count (learned_of j) ≤ most_lines)
 
   -- This holds at every time of a history: after the opening, and after each call.

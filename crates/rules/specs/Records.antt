@@ -1,6 +1,6 @@
 -- Calls that come as a list of call records, on a job that is opened for them: what comes of them, and that it is right at every time. Assumes nothing.
 use Rattle.std.specs.Prelude.{◌≡◌, ℕ, cond, ◌&&◌, List, [], ◌∷◌, map, reverse, pos, Some, None, Option, ◌==◌, ◌≢◌, nat_eq, unsigned_abs}
-use Rattle.std.specs.List.{AllByRecursion as All}
+use Rattle.std.specs.List.{AllByRecursion}
 use Rattle.rules.specs.declared.records.CallRecord.{CallRecord}
 use Rattle.rules.specs.declared.records.Request.{Request}
 use Rattle.rules.specs.declared.refusals.Fault.{Fault}
@@ -68,7 +68,7 @@ pub data KeptJob : Type 0 where
 
 -- What is promised of a sheet, a catalogue's meaning, a list of call records with their answers, and the job afterwards: opened with a fault, the job keeps it and every record has its number for an answer; opened without, the records are carried out.
 abbrev pub Lawful : Meaning → Sheet → List CallRecord → KeptJob → Type 0
-Lawful m s rs (faulty f) = (opening m s ≡ Some f) × All (λ r. r.answer ≡ f.number) rs
+Lawful m s rs (faulty f) = (opening m s ≡ Some f) × AllByRecursion (λ r. r.answer ≡ f.number) rs
 Lawful m s rs (faultless j) = (opening m s ≡ None) × CarriedOut m s rs j
 
 -- The call that a request is for, worked out: none where the code isn't 1 to 5, or a part that the code does not use isn't 0.

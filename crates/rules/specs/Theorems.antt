@@ -1,6 +1,6 @@
 -- The theorems on the rules; each is the contract of a function. Assumes nothing.
 use Rattle.std.specs.Prelude.{◌≡◌, ℕ, ◌≤◌, false, List, map, reverse, None}
-use Rattle.std.specs.List.{AllByRecursion as All}
+use Rattle.std.specs.List.{AllByRecursion}
 use Rattle.rules.specs.declared.lines.Line.{Line}
 use Rattle.rules.specs.declared.records.CallRecord.{CallRecord}
 use Rattle.rules.specs.declared.refusals.Refusal.{Refusal}
@@ -48,13 +48,13 @@ Replaces S l k = (l.row ≡ k.row) × (l.level ≡ k.level) × ((S.joining l.row
 -- What a ground has in it that is learned after t from a ground for each version there: the moved lines of those grounds, and of two at one place the one whose constant isn't worse.
 pub record Learned (S : Setting) (t : Part) (pick : ℕ → Ground) (g : Ground) : Type 0 where
   pub ordered : Ordered g
-  pub taken_over : All (λ l. (v : ℕ) × (1 ≤ v) × (v ≤ S.versions (open_places S t)) × Any (λ k. l ≡ moved S t v k) (pick v)) g
-  pub replaced : (v : ℕ) → 1 ≤ v → v ≤ S.versions (open_places S t) → All (λ k. Any (λ l. Replaces S l (moved S t v k)) g) (pick v)
+  pub taken_over : AllByRecursion (λ l. (v : ℕ) × (1 ≤ v) × (v ≤ S.versions (open_places S t)) × Any (λ k. l ≡ moved S t v k) (pick v)) g
+  pub replaced : (v : ℕ) → 1 ≤ v → v ≤ S.versions (open_places S t) → AllByRecursion (λ k. Any (λ l. Replaces S l (moved S t v k)) g) (pick v)
 
 -- A ground is learned from grounds over the setting's rows as the rules say.
 abbrev pub LearningLaw : Type 0
 LearningLaw =
-    (S : Setting) → SoundSetting S → (t : Part) (pick : ℕ → Ground) → ((v : ℕ) → 1 ≤ v → v ≤ S.versions (open_places S t) → All (λ l. l.row ≤ S.last_row) (pick v)) → Learned S t pick (learn_from S t pick)
+    (S : Setting) → SoundSetting S → (t : Part) (pick : ℕ → Ground) → ((v : ℕ) → 1 ≤ v → v ≤ S.versions (open_places S t) → AllByRecursion (λ l. l.row ≤ S.last_row) (pick v)) → Learned S t pick (learn_from S t pick)
 
 -- An opening finds a fault exactly when there is one.
 abbrev pub OpeningLaw : Type 0
