@@ -16,7 +16,7 @@ RECORD = re.compile(r"^\s*(?:pub )?(?:record|data) (?:pub )?([^\s(){}.,;:]+)")
 MODULE = re.compile(r"^\s*(?:module|where)\b")
 TOKEN = re.compile(r"[^\s(){}.,;:λ«»\[\]⌜⌝`|\"]+")
 # What port.py left, since the file had the name already, and names that imports give.
-LEFT = {"last-row": "last_row", "cheaper-of": "cheaper_of", "what-is-read": "what_is_read"}
+LEFT = {"last-row": "last_row", "cheaper-of": "cheaper_of", "what-is-read": "what_is_read", "ground-count": "ground_count"}
 
 
 def files(root, endings):
@@ -45,15 +45,19 @@ def own_names(root):
         with open(path, encoding="utf-8") as f:
             text = f.read()
         for line in text.splitlines():
+            if line.lstrip().startswith("--"):
+                continue
             m = RECORD.match(line)
             names = [m.group(1)] if m else []
             h = HEAD.match(line)
             if h and not m:
-                if h.group(4).strip() and not h.group(4).strip().startswith(("(", "{")):
+                more = h.group(4).split()
+                several = all(TOKEN.fullmatch(name) for name in more)
+                if more and not several and not more[0].startswith(("(", "{")):
                     continue
                 if re.search(r"\bgoal\.", h.group(5)):
                     continue
-                names = [h.group(3)]
+                names = [h.group(3), *(more if several else [])]
             for name in names:
                 if "-" in name and not name.startswith("-"):
                     found.setdefault(name, set()).add((path, is_type(text, name)))
@@ -101,6 +105,7 @@ def main(argv):
             print(f"fall together: {olds} -> {new}")
     changed = 0
     pages = [os.path.join(root, "README.md"), *files(os.path.join(root, "docs"), (".md",))]
+    pages = [p for p in pages if os.path.basename(p) != "PORT.md"]
     for path in [*files(os.path.join(root, "crates"), (".antt", ".rt")), *pages]:
         with open(path, encoding="utf-8") as f:
             text = f.read()

@@ -121,14 +121,14 @@ module _ (at : ℕ) (s : Reading) (a b c : ℕ) (tail : List ℕ) (small : Bytes
   says p said fit long =
       let e : Entry = decode s.job p.field (take len tail) in
       let cut : length (take len tail) ≡ len = length-take len tail ∙ omega (arith, long) in
-      let small-body : Bytes (take len tail) = All-take (λ x. x < 2 ^ 8) len tail small.1.1.1 in
-      let is : body e ≡ take len tail = body_decoded s.job p.field (take len tail) small-body (cut ∙ fit) in
+      let small_body : Bytes (take len tail) = All-take (λ x. x < 2 ^ 8) len tail small.1.1.1 in
+      let is : body e ≡ take len tail = body_decoded s.job p.field (take len tail) small_body (cut ∙ fit) in
       let whole : length (body e) ≡ len = ap length is ∙ cut in
       let same : field_of e ≡ p.field = field_decoded s.job p.field (take len tail) in
-      let its-tag : a ≡ tag_of (field_of e) = announced_tag a p s.job s.section said ∙ ap tag_of (sym same) in
+      let its_tag : a ≡ tag_of (field_of e) = announced_tag a p s.job s.section said ∙ ap tag_of (sym same) in
       let high : b ≡ length (body e) / 256 = omega (arith, whole, small.1.1.0) in
       let low : c ≡ length (body e) % 256 = omega (arith, whole, small.1.1.0) in
-      record { kind = same; tag = its-tag; fit = cut ∙ fit; bytes = small-body; full = whole; written = front e its-tag high low is }
+      record { kind = same; tag = its_tag; fit = cut ∙ fit; bytes = small_body; full = whole; written = front e its_tag high low is }
 
   rest_read : (p : Announced) (r : FieldRead) → announced s.job s.section a ≡ Some p → read_rest s.job p len tail at ≡ Ok r → ReadAs at s (a ∷ (b ∷ (c ∷ tail))) r.size r.reading
   rest_read p r said h =

@@ -39,10 +39,10 @@ module _ (r : Reader) (found : ℕ) (late : early r.section ≡ false) (is : fou
   pub all_placed : SoundIn r.section r.at r → found ≡ r.job.sheet.places → Ok (stated_by r.file.now r.job) ≡ finish (front_of r) r.at
   all_placed s all =
       let a = after_order r.section r.at r late s in
-      let with-counts : ℕ → ℕ → Stated = λ rows order. record { places = (front_job r).places; last_row = (front_job r).last_row; cap = (front_job r).cap; rows = take rows r.job.sheet.rows; order = take order r.job.sheet.order; listed = (front_job r).listed; ladders = (front_job r).ladders; calls = (front_job r).calls } in
+      let with_counts : ℕ → ℕ → Stated = λ rows order. record { places = (front_job r).places; last_row = (front_job r).last_row; cap = (front_job r).cap; rows = take rows r.job.sheet.rows; order = take order r.job.sheet.order; listed = (front_job r).listed; ladders = (front_job r).ladders; calls = (front_job r).calls } in
       sym (cond-false (early r.section) _ _ late
       ∙ cond-true (eqb (length (front_job r).listed + length (front_job r).ladders) r.job.sheet.places) _ _ (eq-eqb _ _ (sym counted ∙ all))
-      ∙ ap₂ (λ rows order. Ok (with-counts rows order)) a.all_rows a.order)
+      ∙ ap₂ (λ rows order. Ok (with_counts rows order)) a.all_rows a.order)
 
   -- a place is missing
   pub not_placed : (f : Fault) → (found ≡ r.job.sheet.places → ⊥) → f ≡ fault_in CountsDiffer 0 found 0 (suc (last_row r.job.sheet)) → Err f ≡ finish (front_of r) r.at

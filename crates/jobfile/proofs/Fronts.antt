@@ -120,9 +120,9 @@ module _ (j : Stated) (q : ℕ) (zs : List ℤ) (at : ℕ) (h : Late j) (none : 
 
   pub entries_version : entries (with_entry j (version q zs)) ≡ entries j ++ (version q zs ∷ [])
   entries_version =
-      let at-q : 1 + length others ≡ q = omega (arith, others_length, turn_facts.0) in
+      let at_q : 1 + length others ≡ q = omega (arith, others_length, turn_facts.0) in
       let pushed : listed_entries 1 (others ++ ((held j q ++ (zs ∷ [])) ∷ [])) ≡ listed_entries 1 j.listed ++ (version q zs ∷ []) =
-      listed_push 1 others (held j q) zs ∙ ap₂ (λ x n. x ++ (version n zs ∷ [])) (refill j.listed (q - 1) (omega (arith, turn_facts.3)) (omega (arith, turn_facts.2, turn_facts.0))) at-q in
+      listed_push 1 others (held j q) zs ∙ ap₂ (λ x n. x ++ (version n zs ∷ [])) (refill j.listed (q - 1) (omega (arith, turn_facts.3)) (omega (arith, turn_facts.2, turn_facts.0))) at_q in
       push_tail (early_entries j) (order j.order) (tail j) _ (version q zs)
       (ap₂ (λ ls cs. listed_entries 1 (others ++ ((held j q ++ (zs ∷ [])) ∷ [])) ++ (ladder_entries (suc (length (others ++ ((held j q ++ (zs ∷ [])) ∷ [])))) ls ++ map call cs)) none quiet
       ∙ append-nil _ ∙ pushed
@@ -164,8 +164,8 @@ module _ (j : Stated) (q : ℕ) (l : LadderStated) (at : ℕ) (h : Late j) (quie
   pub entries_ladder : entries (with_entry j (ladder q l)) ≡ entries j ++ (ladder q l ∷ [])
   entries_ladder =
       let k = suc (length j.listed) in
-      let at-q : k + length j.ladders ≡ q = omega (arith, ladder_turn.0) in
-      let pushed : ladder_entries k (j.ladders ++ (l ∷ [])) ≡ ladder_entries k j.ladders ++ (ladder q l ∷ []) = ladders_push k j.ladders l ∙ ap (λ n. ladder_entries k j.ladders ++ (ladder n l ∷ [])) at-q in
+      let at_q : k + length j.ladders ≡ q = omega (arith, ladder_turn.0) in
+      let pushed : ladder_entries k (j.ladders ++ (l ∷ [])) ≡ ladder_entries k j.ladders ++ (ladder q l ∷ []) = ladders_push k j.ladders l ∙ ap (λ n. ladder_entries k j.ladders ++ (ladder n l ∷ [])) at_q in
       push_tail (early_entries j) (order j.order) (tail j) _ (ladder q l)
       (ap (λ cs. listed_entries 1 j.listed ++ (ladder_entries k (j.ladders ++ (l ∷ [])) ++ map call cs)) quiet
       ∙ ap (λ x. listed_entries 1 j.listed ++ x) (append-nil _ ∙ pushed)

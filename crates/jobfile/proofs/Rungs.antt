@@ -39,13 +39,13 @@ from_row zero a bs = refl
 from_row (suc k) a bs =
     let two : 2 * suc k ≡ suc (suc (2 * k)) = omega arith in
     let next : 2 + 8 * a + 4 + 4 ≡ 2 + 8 * (a + 1) = omega arith in
-    let at-0 : 2 + 8 * a + 0 ≡ 2 + 8 * a = omega arith in
-    let at-4 : 2 + 8 * a + 4 + 0 ≡ 2 + 8 * a + 4 = omega arith in
+    let at_0 : 2 + 8 * a + 0 ≡ 2 + 8 * a = omega arith in
+    let at_4 : 2 + 8 * a + 4 + 0 ≡ 2 + 8 * a + 4 = omega arith in
     ap (λ n. rungs_in (numbers_in n (drop (2 + 8 * a) bs))) two
     ∙ ap₂ (λ g gs. g ∷ gs)
     (ap₂ (λ b s. record { base = b; step = s })
-    (number_drop (2 + 8 * a) 0 bs ∙ ap (number_at bs) at-0)
-    (ap (λ xs. number_at xs 0) (drop-drop 4 (2 + 8 * a) bs) ∙ number_drop (2 + 8 * a + 4) 0 bs ∙ ap (number_at bs) at-4))
+    (number_drop (2 + 8 * a) 0 bs ∙ ap (number_at bs) at_0)
+    (ap (λ xs. number_at xs 0) (drop-drop 4 (2 + 8 * a) bs) ∙ number_drop (2 + 8 * a + 4) 0 bs ∙ ap (number_at bs) at_4))
     (ap (λ xs. rungs_in (numbers_in (2 * k) xs)) (ap (drop 4) (drop-drop 4 (2 + 8 * a) bs) ∙ drop-drop 4 (2 + 8 * a + 4) bs ∙ ap (λ n. drop n bs) next) ∙ from_row k (a + 1) bs)
 
 pub rungs_counted : (k : ℕ) (bs : List ℕ) → map (rung_in bs) (range_with_len 0 k) ≡ rungs_in (numbers_in (2 * k) (drop 2 bs))

@@ -12,7 +12,7 @@ use Rattle.rules.specs.Bounds.{most_versions, greatest_amount, greatest_limit}
 use Rattle.rules.specs.declared.kinds.Kind.{Kind}
 use Rattle.rules.specs.declared.kinds.Kind.TheVariants.{SumAtMost, SumAtLeast, GreatestAtMost}
 use Rattle.rules.specs.Joinings.{kind_number, kind_numbered}
-use Rattle.rules.specs.Calls.{Call, change, clear, begin-search, close, run}
+use Rattle.rules.specs.Calls.{Call, change, clear, begin_search, close, run}
 use Rattle.rules.specs.Records.{request_of}
 use Rattle.rules.specs.Catalogues.{rung}
 use Rattle.rules.specs.Refusals.{fault_in}
@@ -69,7 +69,7 @@ kind_small r h = subst (λ n. n < 2 ^ 8) h.kind.1 (kind_below h.kind.0)
 code_below : (c : Call) → (request_of c).code < 2 ^ 8
 code_below (change r limit) = omega arith
 code_below clear = omega arith
-code_below begin-search = omega arith
+code_below begin_search = omega arith
 code_below close = omega arith
 code_below (run b) = omega arith
 
@@ -219,10 +219,10 @@ module _ (j : Stated) (v : Valid j) where
       let q = suc (length qs) in
       let grown = length-append qs (p ∷ []) in
       let then_at : ℕ = at + length (bytes_of (version_entries q p)) in
-      let next-q : suc (length (qs ++ (p ∷ []))) ≡ suc q = omega (arith, grown) in
+      let next_q : suc (length (qs ++ (p ∷ []))) ≡ suc q = omega (arith, grown) in
       runs_join (runs_place qs p (omega arith) h.0 at)
       (subst (λ x. Runs then_at (at_listed (qs ++ (p ∷ []))) (listed_entries (suc q) ps) (at_listed x)) (append_assoc qs (p ∷ []) ps)
-      (subst (λ n. Runs then_at (at_listed (qs ++ (p ∷ []))) (listed_entries n ps) (at_listed ((qs ++ (p ∷ [])) ++ ps))) next-q
+      (subst (λ n. Runs then_at (at_listed (qs ++ (p ∷ []))) (listed_entries n ps) (at_listed ((qs ++ (p ∷ [])) ++ ps))) next_q
       (runs_listed (qs ++ (p ∷ [])) ps (omega (arith, grown)) h.1 then_at)))
 
   runs_ladders : (c : Section) (ls ms : List LadderStated) → MayLadder c → length j.listed + (length ls + length ms) ≤ j.places → AllByRecursion (ValidLadder j.last_row) ms → (at : ℕ) → Runs at (at_ladders c ls) (ladder_entries (suc (length j.listed + length ls)) ms) (at_ladders (section_after c section.Ladders ms) (ls ++ ms))
@@ -231,10 +231,10 @@ module _ (j : Stated) (v : Valid j) where
       let q = suc (length j.listed + length ls) in
       let grown = length-append ls (m ∷ []) in
       let then_at : ℕ = at + length (field_bytes (ladder q m)) in
-      let next-q : suc (length j.listed + length (ls ++ (m ∷ []))) ≡ suc q = omega (arith, grown) in
+      let next_q : suc (length j.listed + length (ls ++ (m ∷ []))) ≡ suc q = omega (arith, grown) in
       go (takes_ladder at c ls m may (omega arith) h.0)
       (subst (λ x. Runs then_at (at_ladders section.Ladders (ls ++ (m ∷ []))) (ladder_entries (suc q) ms) (at_ladders section.Ladders x)) (append_assoc ls (m ∷ []) ms)
-      (subst (λ n. Runs then_at (at_ladders section.Ladders (ls ++ (m ∷ []))) (ladder_entries n ms) (at_ladders section.Ladders ((ls ++ (m ∷ [])) ++ ms))) next-q
+      (subst (λ n. Runs then_at (at_ladders section.Ladders (ls ++ (m ∷ []))) (ladder_entries n ms) (at_ladders section.Ladders ((ls ++ (m ∷ [])) ++ ms))) next_q
       (subst (λ d. Runs then_at (at_ladders section.Ladders (ls ++ (m ∷ []))) (ladder_entries (suc (length j.listed + length (ls ++ (m ∷ [])))) ms) (at_ladders d ((ls ++ (m ∷ [])) ++ ms))) (after_same section.Ladders ms)
       (runs_ladders section.Ladders (ls ++ (m ∷ [])) ms ((λ k. refl), λ k. refl) (omega (arith, grown)) h.1 then_at))))
 

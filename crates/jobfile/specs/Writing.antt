@@ -1,7 +1,6 @@
 -- How a job is written: field by field, by rising tag. Assumes nothing.
 use Rattle.std.specs.Prelude.{ℕ, suc, ◌/◌, ◌%◌, List, [], ◌∷◌, ◌++◌, map, length, ℤ}
-use Rattle.std.specs.Int.{w32}
-use Rattle.std.proofs.Common.{of_z}
+use Rattle.std.specs.Int.{w32, cast_unsigned}
 use Rattle.rules.specs.declared.records.Request.{Request}
 use Rattle.rules.specs.declared.sheets.Row.{Row}
 use Rattle.jobfile.specs.declared.fields.Field.{Field}
@@ -10,7 +9,7 @@ use Rattle.jobfile.specs.Stated.{RungStated, LadderStated, PlaceStated, Stated}
 
 -- A signed number in four bytes, the most significant first.
 abbrev pub four : ℤ → List ℕ
-four z = (of_z w32 z / 16777216) ∷ ((of_z w32 z / 65536 % 256) ∷ ((of_z w32 z / 256 % 256) ∷ ((of_z w32 z % 256) ∷ [])))
+four z = (cast_unsigned w32 z / 16777216) ∷ ((cast_unsigned w32 z / 65536 % 256) ∷ ((cast_unsigned w32 z / 256 % 256) ∷ ((cast_unsigned w32 z % 256) ∷ [])))
 
 -- Signed numbers, in four bytes each.
 abbrev pub fours : List ℤ → List ℕ

@@ -21,7 +21,7 @@ pub trait Joining {
     // The total of no amounts.
     const UNIT: i64;
 
-    // The unit under a contract, since no clause can name an associated constant.
+    // The unit under a contract: no clause here names the constant.
     fn start() -> i64
         ensures { result ≡ rule.unit };
 

@@ -24,5 +24,5 @@ end_of records k = (get_or records k no_record).start + (get_or records k no_rec
 
 -- There are no more grounds and lines than there may be, and no ground has lines past those in use.
 abbrev pub Within : List GroundRecord → ℕ → ℕ → Type 0
-Within records ground-count line_count =
-    (ground-count ≤ most_grounds) × (line_count ≤ most_lines) × ((k : ℕ) → k < ground-count → end_of records k ≤ line_count)
+Within records ground_count line_count =
+    (ground_count ≤ most_grounds) × (line_count ≤ most_lines) × ((k : ℕ) → k < ground_count → end_of records k ≤ line_count)

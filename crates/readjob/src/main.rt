@@ -2,7 +2,6 @@
 // sheet's limits; or the line of the file's fault, and ends with status 1.
 #![tactic(auto)]
 
-use anyhow::anyhow;
 use catalogue::{Beside, Catalogue, Listed};
 use exhaustive::{Found, cheapest};
 use jobfile::{Job, MOST_BYTES};
@@ -10,6 +9,7 @@ use report::{FAULT_BUFFER, write_fault};
 use rules::{Fault, Request, Sheet};
 use std::io;
 use std::io::{Read, Write};
+use std::process::ExitCode;
 
 // The counts of a sheet, and its rows in turn from the price on: limits and kinds.
 fn print_sheet(rt: &impl Print, sheet: &Sheet) -> io::Result<()> {
@@ -128,10 +128,10 @@ fn run(rt: &HostRuntime) -> io::Result<bool> {
     }
 }
 
-fn main(rt: HostRuntime) -> anyhow::Result<()> {
+fn main(rt: HostRuntime) -> io::Result<ExitCode> {
     if run(&rt)? {
-        Ok(())
+        Ok(ExitCode::SUCCESS)
     } else {
-        Err(anyhow!("the job file is refused"))
+        Ok(ExitCode::FAILURE)
     }
 }

@@ -2,7 +2,7 @@
 use Rattle.std.proofs.Common.{◌≡◌, ℕ, Bool, true, false, ◌&&◌, eqb, ℤ, pos, negsuc, nat_abs, Some, None, Option, refl, ap, ◌∙◌, arith}
 use Rattle.std.proofs.lemmas.Bool.{cond_both, and_parts, and_from, eqb-true, eq-eqb}
 use Rattle.rules.specs.declared.records.Request.{Request}
-use Rattle.rules.specs.Calls.{Call, begin-search, change, clear, close, run}
+use Rattle.rules.specs.Calls.{Call, begin_search, change, clear, close, run}
 use Rattle.rules.specs.Records.{asked, request_of}
 use Rattle.rules.proofs.Bools.{clash}
 
@@ -41,7 +41,7 @@ module _ (r : Request) where
   no_call : eqb r.code 1 ≡ false → (eqb r.code 2 && bare) ≡ false → (eqb r.code 3 && bare) ≡ false → (eqb r.code 4 && rowless) ≡ false → (eqb r.code 5 && bare) ≡ false → (c : Call) → r ≡ request_of c → ⊥
   no_call a b c d e (change row limit) h = clash (eq-eqb r.code 1 (ap (λ x. x.code) h)) a
   no_call a b c d e clear h = clash (made_bare 2 h) b
-  no_call a b c d e begin-search h = clash (made_bare 3 h) c
+  no_call a b c d e begin_search h = clash (made_bare 3 h) c
   no_call a b c d e (run x) h = clash (made_rowless x h) d
   no_call a b c d e close h = clash (made_bare 5 h) e
 
@@ -59,7 +59,7 @@ asked_call : (c : Call) → asked (request_of c) ≡ Some c
 unfolding asked
 asked_call (change row limit) = refl
 asked_call clear = refl
-asked_call begin-search = refl
+asked_call begin_search = refl
 asked_call (run x) = refl
 asked_call close = refl
 

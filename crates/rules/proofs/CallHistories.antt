@@ -7,7 +7,7 @@ use Rattle.rules.specs.Sheets.{Limits}
 use Rattle.rules.specs.Choices.{changed}
 use Rattle.rules.specs.Grounds.{Ground, Learnable, Part, Setting, SoundSetting}
 use Rattle.rules.specs.Search.{Ended, Full, Named, Outcome, Runs, State, Step, ended, found, full, learns, more, move, none, set, start, stepped}
-use Rattle.rules.specs.Calls.{Answer, Call, Does, Finding, Job, Run, Verdict, Why, budget-used, changes, clears, closed, closes, filled, finding_at, least, nothing, ran, refused, refuses, run, running, runs, searches, unfinished, when_ended, why}
+use Rattle.rules.specs.Calls.{Answer, Call, Does, Finding, Job, Run, Verdict, Why, budget_used, changes, clears, closed, closes, filled, finding_at, least, nothing, ran, refused, refuses, run, running, runs, searches, unfinished, when_ended, why}
 use Rattle.rules.specs.Histories.{BudgetKept, Entry, History, LastBudgetKept, began_with, called, grounds_after, learned_of, limits_after, limits_of, opened, steps_run}
 use Rattle.rules.proofs.ByPosition.{Complete, PartCloses, PartKeeps, PartLeast}
 use Rattle.rules.proofs.Invariant.{Invariant, Space, BestSoFar, start_invariant, runs_invariant}
@@ -120,7 +120,7 @@ module _ (S : Setting) where
   run_budget : {L : Limits} {b : ℕ} {σ : State} {w : Why} {k : ℕ} {τ : State} → Run S L b σ w k τ → BudgetKept S (ran w k) (run (pos b)) (running L τ)
   run_budget {L} {b} {k = k} {τ = τ} r = by r.outcome r.named (λ e. r.used (r.reason_is ∙ e))
     where
-      by : (o : Outcome) → Named S L τ o → (why o ≡ budget-used → k ≡ b) → (k ≡ b) ⊎ ((k < b) × (((g : Ground) × Ended S L τ g) ⊎ Full S L τ))
+      by : (o : Outcome) → Named S L τ o → (why o ≡ budget_used → k ≡ b) → (k ≡ b) ⊎ ((k < b) × (((g : Ground) × Ended S L τ g) ⊎ Full S L τ))
       by (ended g) n u = elim (cases_lt k b) [ inl h ↦ inr (h, inl (g, n)) | inr h ↦ inl (omega (arith, r.within)) ]
       by full n u = elim (cases_lt k b) [ inl h ↦ inr (h, inr n) | inr h ↦ inl (omega (arith, r.within)) ]
       by (stepped υ) n u = inl (u refl)

@@ -7,7 +7,7 @@ use Rattle.rules.specs.Bounds.{greatest_limit, most_steps}
 use Rattle.rules.specs.Sheets.{Limits}
 use Rattle.rules.specs.Grounds.{Setting}
 use Rattle.rules.specs.Search.{Named, Outcome, Runs, State, Step, ended, full, more, next, none, stepped}
-use Rattle.rules.specs.Calls.{Answer, Call, Does, Job, Ran, Refuses, Reply, Run, Why, begin-search, budget_beyond, budget-used, change, changes, clear, clears, close, closed, closes, has_ended, is-full, limit_beyond, negative, no_change, no_clear, no_close, no_row, no_run, no_search, one_more, ran, refused, refuses, replied, reply, run, run_from, run_reply, running, runs, searches, taken, verdict, why}
+use Rattle.rules.specs.Calls.{Answer, Call, Does, Job, Ran, Refuses, Reply, Run, Why, begin_search, budget_beyond, budget_used, change, changes, clear, clears, close, closed, closes, has_ended, is_full, limit_beyond, negative, no_change, no_clear, no_close, no_row, no_run, no_search, one_more, ran, refused, refuses, replied, reply, run, run_from, run_reply, running, runs, searches, taken, verdict, why}
 use Rattle.rules.specs.Histories.{Entry, History, Played, called, one_call, opened, play, unplayed}
 use Rattle.rules.specs.Theorems.{CallLaw, HistoryLaw, RefusalLaw, StepLaw}
 use Rattle.rules.proofs.Agree.{next_named, step_next, full_next, ended_next}
@@ -22,7 +22,7 @@ step_law S L σ = (next_named S L σ, named_next S L σ)
 
 module _ (S : Setting) (L : Limits) where
   -- a run that is worked out is a run of the rules
-  ends_run : (b : ℕ) (σ : State) (o : Outcome) → next S L σ ≡ o → (why o ≡ budget-used → 0 ≡ b) → Run S L b σ (why o) 0 σ
+  ends_run : (b : ℕ) (σ : State) (o : Outcome) → next S L σ ≡ o → (why o ≡ budget_used → 0 ≡ b) → Run S L b σ (why o) 0 σ
   ends_run b σ o e u =
       record { outcome = o; steps = none; within = omega arith; named = subst (Named S L σ) e (next_named S L σ); reason_is = refl; used = u }
 
@@ -30,14 +30,14 @@ module _ (S : Setting) (L : Limits) where
   later b σ τ reason made υ s r =
       record { outcome = r.outcome; steps = more s r.steps; within = omega (arith, r.within); named = r.named; reason_is = r.reason_is; used = λ e. ap suc (r.used e) }
 
-  not_used : (b : ℕ) (w : Why) → (w ≡ budget-used → ⊥) → w ≡ budget-used → 0 ≡ b
+  not_used : (b : ℕ) (w : Why) → (w ≡ budget_used → ⊥) → w ≡ budget_used → 0 ≡ b
   not_used b w n e = absurd (n e)
 
   -- what is left of a run where the rules name an outcome
   from_outcome : ℕ → State → Outcome → Ran
   from_outcome b σ o = elim o [
     | ended g ↦ record { reason = has_ended; made = 0; state = σ }
-    | full ↦ record { reason = is-full; made = 0; state = σ }
+    | full ↦ record { reason = is_full; made = 0; state = σ }
     | stepped τ ↦ one_more (run_from S L b τ)
   ]
 
@@ -48,17 +48,17 @@ module _ (S : Setting) (L : Limits) where
     where
       by : (o : Outcome) → next S L σ ≡ o → ((τ : State) → Run S L b τ (run_from S L b τ).reason (run_from S L b τ).made (run_from S L b τ).state) → Run S L (suc b) σ (from_outcome b σ o).reason (from_outcome b σ o).made (from_outcome b σ o).state
       by (ended g) e rec = ends_run (suc b) σ (ended g) e (not_used (suc b) has_ended (λ e. let z : ◌≡◌ {A = ℕ} 0 1 = cc in omega arith))
-      by full e rec = ends_run (suc b) σ full e (not_used (suc b) is-full (λ e. let z : ◌≡◌ {A = ℕ} 0 1 = cc in omega arith))
+      by full e rec = ends_run (suc b) σ full e (not_used (suc b) is_full (λ e. let z : ◌≡◌ {A = ℕ} 0 1 = cc in omega arith))
       by (stepped τ) e rec = later b σ τ _ _ _ (subst (Named S L σ) e (next_named S L σ)) (rec τ)
 
   -- no other run is one
-  stops_at : (b : ℕ) (σ : State) (o : Outcome) → (why o ≡ budget-used → 0 ≡ suc b) → from_outcome b σ o ≡ record { reason = why o; made = 0; state = σ }
+  stops_at : (b : ℕ) (σ : State) (o : Outcome) → (why o ≡ budget_used → 0 ≡ suc b) → from_outcome b σ o ≡ record { reason = why o; made = 0; state = σ }
   unfolding from_outcome
   stops_at b σ (ended g) u = refl
   stops_at b σ full u = refl
   stops_at b σ (stepped τ) u = absurd (omega (arith, u refl))
 
-  unique : (b : ℕ) {made : ℕ} {σ τ : State} → Runs S L made σ τ → (o : Outcome) → Named S L τ o → made ≤ b → (why o ≡ budget-used → made ≡ b) → run_from S L b σ ≡ record { reason = why o; made = made; state = τ }
+  unique : (b : ℕ) {made : ℕ} {σ τ : State} → Runs S L made σ τ → (o : Outcome) → Named S L τ o → made ≤ b → (why o ≡ budget_used → made ≡ b) → run_from S L b σ ≡ record { reason = why o; made = made; state = τ }
   unfolding from_outcome
   unique zero {σ = σ} none o n l u = ap (λ x. record { reason = why x; made = 0; state = σ }) (sym (named_next S L σ o n))
   unique (suc b) {σ = σ} none o n l u = ap (from_outcome b σ) (sym (named_next S L σ o n)) ∙ stops_at b σ o u
@@ -85,12 +85,12 @@ module _ (S : Setting) where
       (λ d. refuses (limit_beyond (leb-true _ _ e) (leb-false _ _ d))))
       (λ e. refuses (no_row (leb-false _ _ e)))
   reply_does (closed L gs v) clear = clears
-  reply_does (closed L gs v) begin-search = searches
+  reply_does (closed L gs v) begin_search = searches
   reply_does (closed L gs v) close = refuses no_close
   reply_does (closed L gs v) (run budget) = refuses no_run
   reply_does (running L σ) (change row limit) = refuses no_change
   reply_does (running L σ) clear = refuses no_clear
-  reply_does (running L σ) begin-search = refuses no_search
+  reply_does (running L σ) begin_search = refuses no_search
   reply_does (running L σ) close = closes (next S L σ) (next_named S L σ)
   reply_does (running L σ) (run (pos budget)) =
       cond_both (leb (σ.steps + budget) most_steps) _ _ (Fits (running L σ) (run (pos budget)))

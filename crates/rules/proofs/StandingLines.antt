@@ -44,17 +44,17 @@ module _ (S : Setting) where
     -- the line that is kept of two stands only where both do
     kept_gives : (a b : Line) → Known a → same_place a b ≡ true → line_stands S L s (kept S a b) ≡ true → (line_stands S L s a ≡ true) × (line_stands S L s b ≡ true)
     kept_gives a b k e h =
-        let b-is : b ≡ line a.row a.level b.constant = at_place b a.row a.level (sym (same_row a b e)) (sym (same_level a b e)) in
+        let b_is : b ≡ line a.row a.level b.constant = at_place b a.row a.level (sym (same_row a b e)) (sym (same_level a b e)) in
         split ((S.joining a.row).worse a.constant b.constant)
         (λ w.
         let g : line_stands S L s b ≡ true = subst (λ x. line_stands S L s x ≡ true) (cond-true _ _ _ w) h in (
           line_gives a.row a.level k a.constant b.constant (not_worse_back a.row k a.constant b.constant w)
-              (subst (λ x. line_stands S L s x ≡ true) b-is g),
+              (subst (λ x. line_stands S L s x ≡ true) b_is g),
           g,
         ))
         (λ w.
         let g : line_stands S L s a ≡ true = subst (λ x. line_stands S L s x ≡ true) (cond-false _ _ _ w) h in
-        (g, subst (λ x. line_stands S L s x ≡ true) (sym b-is) (line_gives a.row a.level k b.constant a.constant w g)))
+        (g, subst (λ x. line_stands S L s x ≡ true) (sym b_is) (line_gives a.row a.level k b.constant a.constant w g)))
 
     pub with_line_gives : (a : Line) (g : Ground) → Known a → stands S L s (with_line S a g) ≡ true → (line_stands S L s a ≡ true) × (stands S L s g ≡ true)
     with_line_gives a [] k h = ((and_parts _ _ h).0, refl)

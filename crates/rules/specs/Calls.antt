@@ -29,12 +29,12 @@ pub data Job : Type 0 where
 -- A limit change on a row to a limit, clear, search, close, and a run with a budget.
 pub data Call : Type 0 where
   change : ℕ → ℤ → Call
-  clear begin-search close : Call
+  clear begin_search close : Call
   run : ℤ → Call
 
 -- Why a run stopped.
 pub data Why : Type 0 where
-  has_ended is-full budget-used : Why
+  has_ended is_full budget_used : Why
 
 -- A call is taken, a run with the steps made, or it is refused.
 pub data Answer : Type 0 where
@@ -60,8 +60,8 @@ verdict σ outcome = record { finding = finding_at σ.best outcome; steps = σ.s
 -- Why a run stops where the rules name an outcome.
 abbrev pub why : Outcome → Why
 why (ended g) = has_ended
-why full = is-full
-why (stepped τ) = budget-used
+why full = is_full
+why (stepped τ) = budget_used
 
 -- What a run gives, worked out.
 pub record Ran : Type 0 where
@@ -94,7 +94,7 @@ module _ (S : Setting) where
     pub within : made ≤ budget
     pub named : Named S L τ outcome
     pub reason_is : reason ≡ why outcome
-    pub used : reason ≡ budget-used → made ≡ budget
+    pub used : reason ≡ budget_used → made ≡ budget
 
   -- Every refusal of a call on a job, in the order of the tests: the state, the row, the limit or the budget.
   pub data Refuses : Job → Call → Refusal → Type 0 where
@@ -103,7 +103,7 @@ module _ (S : Setting) where
     no_close : {L : Limits} {gs : List Ground} {v : Option Verdict} → Refuses (closed L gs v) close NotInThisState
     no_change : {L : Limits} {σ : State} {row : ℕ} {limit : ℤ} → Refuses (running L σ) (change row limit) NotInThisState
     no_clear : {L : Limits} {σ : State} → Refuses (running L σ) clear NotInThisState
-    no_search : {L : Limits} {σ : State} → Refuses (running L σ) begin-search NotInThisState
+    no_search : {L : Limits} {σ : State} → Refuses (running L σ) begin_search NotInThisState
     -- a limit change on a row above the last, and one to a limit too far from 0
     no_row : {L : Limits} {gs : List Ground} {v : Option Verdict} {row : ℕ} {limit : ℤ} → S.last_row < row → Refuses (closed L gs v) (change row limit) NoSuchRow
     limit_beyond : {L : Limits} {gs : List Ground} {v : Option Verdict} {row : ℕ} {limit : ℤ} → row ≤ S.last_row → greatest_limit < unsigned_abs limit → Refuses (closed L gs v) (change row limit) LimitBeyond
@@ -120,7 +120,7 @@ module _ (S : Setting) where
     -- clear drops all learned grounds, and leaves the job unsearched
     clears : {L : Limits} {gs : List Ground} {v : Option Verdict} → Does (closed L gs v) clear taken (closed L [] None)
     -- a search begins at its start, with the learned grounds kept
-    searches : {L : Limits} {gs : List Ground} {v : Option Verdict} → Does (closed L gs v) begin-search taken (running L (start S L gs))
+    searches : {L : Limits} {gs : List Ground} {v : Option Verdict} → Does (closed L gs v) begin_search taken (running L (start S L gs))
     -- a run makes steps within its budget
     runs : {L : Limits} {σ τ : State} {budget made : ℕ} {reason : Why} → σ.steps + budget ≤ most_steps → Run L budget σ reason made τ → Does (running L σ) (run (pos budget)) (ran reason made) (running L τ)
     -- close gives the verdict on what the search has come to, and keeps its learned grounds
@@ -132,7 +132,7 @@ module _ (S : Setting) where
   run_from L (suc budget) σ =
       elim (next S L σ) [
         | ended g ↦ record { reason = has_ended; made = 0; state = σ }
-        | full ↦ record { reason = is-full; made = 0; state = σ }
+        | full ↦ record { reason = is_full; made = 0; state = σ }
         | stepped τ ↦ one_more (run_from L budget τ)
       ]
 
@@ -143,12 +143,12 @@ module _ (S : Setting) where
       (cond (nat_le (unsigned_abs limit) greatest_limit) (replied taken (closed (changed L row limit) gs None)) (replied (refused LimitBeyond) (closed L gs v)))
       (replied (refused NoSuchRow) (closed L gs v))
   reply (closed L gs v) clear = replied taken (closed L [] None)
-  reply (closed L gs v) begin-search = replied taken (running L (start S L gs))
+  reply (closed L gs v) begin_search = replied taken (running L (start S L gs))
   reply (closed L gs v) close = replied (refused NotInThisState) (closed L gs v)
   reply (closed L gs v) (run budget) = replied (refused NotInThisState) (closed L gs v)
   reply (running L σ) (change row limit) = replied (refused NotInThisState) (running L σ)
   reply (running L σ) clear = replied (refused NotInThisState) (running L σ)
-  reply (running L σ) begin-search = replied (refused NotInThisState) (running L σ)
+  reply (running L σ) begin_search = replied (refused NotInThisState) (running L σ)
   reply (running L σ) close = replied taken (closed L σ.learned (Some (verdict σ (next S L σ))))
   reply (running L σ) (run (pos budget)) =
       cond (nat_le (σ.steps + budget) most_steps) (run_reply L (run_from L budget σ)) (replied (refused BudgetBeyond) (running L σ))

@@ -70,7 +70,7 @@ pub record InShape (s : Sheet) (g : List ClosingLine) : Type 0 where
 pub data Told : Type 0 where
   says_least : List ℕ → List ClosingLine → Told
   says_none : List ClosingLine → Told
-  says-full says-unfinished : Option (List ℕ) → Told
+  says_full says_unfinished : Option (List ℕ) → Told
 
 module _ (m : Meaning) (s : Sheet) where
   -- The best choice so far, if there is one, is a choice that keeps the limits.
@@ -82,15 +82,15 @@ module _ (m : Meaning) (s : Sheet) where
   abbrev pub TrueAt : Limits → Told → Type 0
   TrueAt L (says_least c g) = Cheapest m s L c × Closes m s (capped L (price m s c -ℤ pos 1)) g
   TrueAt L (says_none g) = NoChoice m s L × Closes m s L g
-  TrueAt L (says-full best) = BestKeeps L best
-  TrueAt L (says-unfinished best) = BestKeeps L best
+  TrueAt L (says_full best) = BestKeeps L best
+  TrueAt L (says_unfinished best) = BestKeeps L best
 
 -- The closing ground that is told, if any, has the lines of one.
 abbrev pub WellTold : Sheet → Told → Type 0
 WellTold s (says_least c g) = InShape s g
 WellTold s (says_none g) = InShape s g
-WellTold s (says-full best) = Unit {0}
-WellTold s (says-unfinished best) = Unit {0}
+WellTold s (says_full best) = Unit {0}
+WellTold s (says_unfinished best) = Unit {0}
 
 -- In how many ways each place of a list can be given a version.
 abbrev pub ways : Meaning → List ℕ → ℕ

@@ -4,7 +4,7 @@ use Rattle.rules.specs.Sheets.{Limits}
 use Rattle.rules.specs.Choices.{changed}
 use Rattle.rules.specs.Grounds.{Setting, Ground}
 use Rattle.rules.specs.Search.{Ended, Full}
-use Rattle.rules.specs.Calls.{Job, closed, running, Call, change, clear, begin-search, close, run, Answer, taken, ran, refused, Does, reply}
+use Rattle.rules.specs.Calls.{Job, closed, running, Call, change, clear, begin_search, close, run, Answer, taken, ran, refused, Does, reply}
 
 -- A call with its answer.
 pub record Entry : Type 0 where
@@ -50,7 +50,7 @@ limit_after (ran w m) c L = L
 limit_after (refused e) c L = L
 limit_after taken (change row limit) L = changed L row limit
 limit_after taken clear L = L
-limit_after taken begin-search L = L
+limit_after taken begin_search L = L
 limit_after taken close L = L
 limit_after taken (run b) L = L
 
@@ -63,7 +63,7 @@ limits_after L (e ∷ es) = limit_after e.answer e.call (limits_after L es)
 abbrev pub count : Answer → Call → ℕ → ℕ
 count (ran w m) c k = m + k
 count (refused e) c k = k
-count taken begin-search k = 0
+count taken begin_search k = 0
 count taken (change row limit) k = k
 count taken clear k = k
 count taken close k = k
@@ -78,7 +78,7 @@ steps_run (e ∷ es) = count e.answer e.call (steps_run es)
 abbrev pub grounds_after : Answer → Job → Call → List Ground → List Ground
 grounds_after (ran w m) j c gs = gs
 grounds_after (refused e) j c gs = gs
-grounds_after taken j begin-search gs = learned_of j
+grounds_after taken j begin_search gs = learned_of j
 grounds_after taken j (change row limit) gs = gs
 grounds_after taken j clear gs = gs
 grounds_after taken j close gs = gs
@@ -97,7 +97,7 @@ module _ (S : Setting) where
   RunKept k (run (negsuc b)) j = ⊥
   RunKept k (change row limit) j = ⊥
   RunKept k clear j = ⊥
-  RunKept k begin-search j = ⊥
+  RunKept k begin_search j = ⊥
   RunKept k close j = ⊥
 
   -- So it is with a call that answered as a run.

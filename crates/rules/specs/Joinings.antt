@@ -22,7 +22,7 @@ pub record Laws (J : Joining) : Type 0 where
   -- the unit alters no amount within the reach of a catalogue's amounts
   pub unit_join : (a : ℤ) → unsigned_abs a ≤ amount_reach → J.join J.unit a ≡ a
   -- of two different amounts exactly one is worse, none is worse than itself, and worse than a worse one is worse
-  pub exactly_one : (a b : ℤ) → (a ≢ b) → J.worse a b ≡ not (J.worse b a)
+  pub exactly_one : (a b : ℤ) → a ≢ b → J.worse a b ≡ not (J.worse b a)
   pub irreflexive : (a : ℤ) → J.worse a a ≡ false
   pub transitive : (a b c : ℤ) → J.worse a b ≡ true → J.worse b c ≡ true → J.worse a c ≡ true
   -- what isn't worse stays so when both are joined with a third

@@ -11,7 +11,7 @@ use Rattle.rules.specs.Catalogues.{Meaning}
 use Rattle.rules.specs.Sheets.{Limits, limit_of}
 use Rattle.rules.specs.Openings.{opening}
 use Rattle.rules.specs.Grounds.{Setting}
-use Rattle.rules.specs.Calls.{Job, closed, running, Call, change, clear, begin-search, close, run, Answer, taken, ran, refused, reply}
+use Rattle.rules.specs.Calls.{Job, closed, running, Call, change, clear, begin_search, close, run, Answer, taken, ran, refused, reply}
 use Rattle.rules.specs.Histories.{Entry, History}
 use Rattle.rules.specs.Settings.{setting}
 use Rattle.rules.specs.Promises.{RightThroughout}
@@ -20,7 +20,7 @@ use Rattle.rules.specs.Promises.{RightThroughout}
 abbrev pub request_of : Call → Request
 request_of (change row limit) = record { code = 1; row = row; number = limit }
 request_of clear = record { code = 2; row = 0; number = pos 0 }
-request_of begin-search = record { code = 3; row = 0; number = pos 0 }
+request_of begin_search = record { code = 3; row = 0; number = pos 0 }
 request_of (run budget) = record { code = 4; row = 0; number = budget }
 request_of close = record { code = 5; row = 0; number = pos 0 }
 
@@ -78,7 +78,7 @@ asked r =
     let bare = rowless && nat_eq (unsigned_abs r.number) 0 in
     cond (r.code == 1) (Some (change r.row r.number))
     (cond (r.code == 2 && bare) (Some clear)
-    (cond (r.code == 3 && bare) (Some begin-search)
+    (cond (r.code == 3 && bare) (Some begin_search)
     (cond (r.code == 4 && rowless) (Some (run r.number))
     (cond (r.code == 5 && bare) (Some close) None))))
 

@@ -4,7 +4,7 @@ use Rattle.rules.specs.declared.lines.ClosingLine.{ClosingLine}
 use Rattle.rules.specs.declared.sheets.Sheet.{Sheet}
 use Rattle.rules.specs.Catalogues.{Meaning, has_place, has_amount}
 use Rattle.rules.specs.Sheets.{Limits, last_row, joining_of, order_of}
-use Rattle.rules.specs.Choices.{Told, says_least, says_none, says-full, says-unfinished, version, Choice, Keeps}
+use Rattle.rules.specs.Choices.{Told, says_least, says_none, says_full, says_unfinished, version, Choice, Keeps}
 use Rattle.rules.specs.Grounds.{Setting, Part, Ground, stands}
 use Rattle.rules.specs.Calls.{Finding, least, nothing, filled, unfinished, Verdict}
 
@@ -63,8 +63,8 @@ closing_lines g = map (λ l. record { row = l.row; constant = l.constant }) g
 abbrev pub told : Sheet → Finding → Told
 told s (least c g) = says_least (by_place s c) (closing_lines g)
 told s (nothing g) = says_none (closing_lines g)
-told s (filled best) = says-full (best_by_place s best)
-told s (unfinished best) = says-unfinished (best_by_place s best)
+told s (filled best) = says_full (best_by_place s best)
+told s (unfinished best) = says_unfinished (best_by_place s best)
 
 -- What can be read off a verdict: what is said, the steps, and how many learned grounds the job holds.
 pub record Seen : Type 0 where

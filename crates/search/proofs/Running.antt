@@ -6,7 +6,7 @@ use Rattle.rules.specs.Bounds.{most_steps}
 use Rattle.rules.specs.Sheets.{Limits}
 use Rattle.rules.specs.Grounds.{Setting, Ground}
 use Rattle.rules.specs.Search.{State, Outcome, ended, full, stepped, next}
-use Rattle.rules.specs.Calls.{Why, has_ended, is-full, budget-used, why, Ran, one_more, run_from, run, running, refused, replied, run_reply, reply}
+use Rattle.rules.specs.Calls.{Why, has_ended, is_full, budget_used, why, Ran, one_more, run_from, run, running, refused, replied, run_reply, reply}
 use Rattle.search.specs.States.{chosen_from, job_limits, state_of}
 use Rattle.search.specs.Runs.{after_steps}
 use Rattle.search.specs.declared.search.Search.{Search}
@@ -17,7 +17,7 @@ module _ (S : Setting) (L : Limits) (σ : State) where
   onward b o =
       elim o [
         | ended g ↦ record { reason = has_ended; made = 0; state = σ }
-        | full ↦ record { reason = is-full; made = 0; state = σ }
+        | full ↦ record { reason = is_full; made = 0; state = σ }
         | stepped τ ↦ one_more (run_from S L b τ)
       ]
 
@@ -30,12 +30,12 @@ module _ (S : Setting) (L : Limits) (σ : State) where
   at_ended g e zero = ap (λ o. stays (why o)) (sym e)
   at_ended g e (suc b) = ap (onward b) (sym e)
 
-  at_full : full ≡ next S L σ → (b : ℕ) → run_from S L b σ ≡ stays is-full
+  at_full : full ≡ next S L σ → (b : ℕ) → run_from S L b σ ≡ stays is_full
   unfolding stays
   at_full e zero = ap (λ o. stays (why o)) (sym e)
   at_full e (suc b) = ap (onward b) (sym e)
 
-  at_used : (τ : State) → stepped τ ≡ next S L σ → run_from S L 0 σ ≡ stays budget-used
+  at_used : (τ : State) → stepped τ ≡ next S L σ → run_from S L 0 σ ≡ stays budget_used
   unfolding stays
   at_used τ e = ap (λ o. stays (why o)) (sym e)
 
@@ -53,11 +53,11 @@ module _ (S : Setting) (L : Limits) (σ : State) where
     ran_ended : (g : Ground) → ended g ≡ next S L σ → record { reason = has_ended; made = k; state = σ } ≡ all
     ran_ended g e = stopped has_ended (n - k) refl (at_ended g e (n - k))
 
-    ran_full : full ≡ next S L σ → record { reason = is-full; made = k; state = σ } ≡ all
-    ran_full e = stopped is-full (n - k) refl (at_full e (n - k))
+    ran_full : full ≡ next S L σ → record { reason = is_full; made = k; state = σ } ≡ all
+    ran_full e = stopped is_full (n - k) refl (at_full e (n - k))
 
-    ran_out : (τ : State) → stepped τ ≡ next S L σ → k ≡ n → record { reason = budget-used; made = k; state = σ } ≡ all
-    ran_out τ e used = stopped budget-used 0 (omega arith) (at_used τ e)
+    ran_out : (τ : State) → stepped τ ≡ next S L σ → k ≡ n → record { reason = budget_used; made = k; state = σ } ≡ all
+    ran_out τ e used = stopped budget_used 0 (omega arith) (at_used τ e)
 
     ran_more : (τ : State) → stepped τ ≡ next S L σ → k < n → all ≡ after_steps (k + 1) (run_from S L (n - (k + 1)) τ)
     ran_more τ e low =
@@ -78,10 +78,10 @@ module _ (s₀ s : Search) (n k : ℕ) (grid : s.grid ≡ s₀.grid) (limits : s
   pub run_ended : (g : Ground) → ended g ≡ next (chosen_from s) (job_limits s) (state_of s) → record { reason = has_ended; made = k; state = state_of s } ≡ all
   run_ended g e = ran_ended (chosen_from s₀) (job_limits s₀) (state_of s) all k n so_far g (kept _ e)
 
-  pub run_full : full ≡ next (chosen_from s) (job_limits s) (state_of s) → record { reason = is-full; made = k; state = state_of s } ≡ all
+  pub run_full : full ≡ next (chosen_from s) (job_limits s) (state_of s) → record { reason = is_full; made = k; state = state_of s } ≡ all
   run_full e = ran_full (chosen_from s₀) (job_limits s₀) (state_of s) all k n so_far (kept _ e)
 
-  pub run_out : (τ : State) → stepped τ ≡ next (chosen_from s) (job_limits s) (state_of s) → k ≡ n → record { reason = budget-used; made = k; state = state_of s } ≡ all
+  pub run_out : (τ : State) → stepped τ ≡ next (chosen_from s) (job_limits s) (state_of s) → k ≡ n → record { reason = budget_used; made = k; state = state_of s } ≡ all
   run_out τ e used = ran_out (chosen_from s₀) (job_limits s₀) (state_of s) all k n so_far τ (kept _ e) used
 
   pub run_more : (τ : State) → stepped τ ≡ next (chosen_from s) (job_limits s) (state_of s) → k < n → all ≡ after_steps (k + 1) (run_from (chosen_from s₀) (job_limits s₀) (n - (k + 1)) τ)

@@ -13,8 +13,8 @@ use Rattle.search.specs.declared.found.Ran.{Ran}
 -- Why a run stopped.
 abbrev pub why_of : Why → calls.Why
 why_of HasEnded = calls.has_ended
-why_of IsFull = calls.is-full
-why_of BudgetUsed = calls.budget-used
+why_of IsFull = calls.is_full
+why_of BudgetUsed = calls.budget_used
 
 -- What a run came to, with the state that it led to.
 abbrev pub ran_of : Ran → State → calls.Ran
