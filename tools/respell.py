@@ -13,7 +13,6 @@ import sys
 
 HEAD = re.compile(r"^(\s*)((?:unfoldable |abbrev |pub |record |data )*)([^\s(){}.,;:λ«»]+)((?:\s[^:]*)?)\s?:(?:\s|$)(.*)$")
 RECORD = re.compile(r"^\s*(?:pub )?(?:record|data) (?:pub )?([^\s(){}.,;:]+)")
-MODULE = re.compile(r"^\s*(?:module|where)\b")
 TOKEN = re.compile(r"[^\s(){}.,;:λ«»\[\]⌜⌝`|\"]+")
 # What port.py left, since the file had the name already, and names that imports give.
 LEFT = {"last-row": "last_row", "cheaper-of": "cheaper_of", "what-is-read": "what_is_read", "ground-count": "ground_count"}
