@@ -1,4 +1,5 @@
 // The greatest amount counts, and the greater is worse.
+ghost use Rattle.std.specs.Prelude.{refl};
 ghost use Rattle.rules.specs.Joinings.{greatest_at_most};
 ghost use Rattle.rules.proofs.JoiningLaws.{greatest_at_most_laws};
 
@@ -10,13 +11,13 @@ impl Joining for GreatestAtMost {
     ghost rule = { greatest_at_most };
 
     // No amount of a catalogue is less.
+    ghost UNIT = { greatest_at_most.unit };
+
     const UNIT: i64 = -(1 << 40);
 
-    ghost kept = { greatest_at_most_laws };
+    ghost unit = { refl };
 
-    fn start() -> i64 {
-        Self::UNIT
-    }
+    ghost kept = { greatest_at_most_laws };
 
     fn join(a: i64, b: i64) -> i64 {
         a.max(b)

@@ -1,7 +1,7 @@
 // The joinings: how the amounts of a row come to a total, and which of two totals is worse.
 #![tactic(auto)]
 
-ghost use Rattle.std.specs.Prelude.{◌≡◌};
+ghost use Rattle.std.specs.Prelude.{◌≡◌, ℤ};
 ghost use Rattle.rules.specs.Joinings.{Joining as Rule, Laws};
 ghost use Rattle.joining.specs.Held.{held};
 
@@ -19,11 +19,12 @@ pub trait Joining {
     ghost rule: { Rule };
 
     // The total of no amounts.
+    ghost UNIT: { ℤ };
+
     const UNIT: i64;
 
-    // The unit under a contract: no clause here names the constant.
-    fn start() -> i64
-        ensures { result ≡ rule.unit };
+    // That constant is the joining's unit.
+    ghost unit: { UNIT ≡ rule.unit };
 
     // Two amounts joined, held within 64 bits.
     fn join(a: i64, b: i64) -> i64
@@ -46,8 +47,8 @@ mod tests {
 
     // The two kinds that add differ in their order only.
     fn check_sums<J: Joining>(rt: &impl Abort) {
-        assert_eq!(rt; J::start(), 0);
-        assert_eq!(rt; J::join(J::start(), -7), -7);
+        assert_eq!(rt; J::UNIT, 0);
+        assert_eq!(rt; J::join(J::UNIT, -7), -7);
         assert_eq!(rt; J::join(-3, -7), -10);
         assert_eq!(rt; J::join(REACH, REACH), 2 * REACH);
         assert_eq!(rt; J::join(-REACH, -REACH), -2 * REACH);
@@ -65,10 +66,10 @@ mod tests {
 
     #[test]
     fn greatest(rt: HostRuntime) {
-        assert_eq!(rt; GreatestAtMost::start(), -REACH);
+        assert_eq!(rt; GreatestAtMost::UNIT, -REACH);
         assert_eq!(rt; GreatestAtMost::join(-REACH, -REACH), -REACH);
         assert_eq!(rt;
-            GreatestAtMost::join(GreatestAtMost::start(), 1 - REACH),
+            GreatestAtMost::join(GreatestAtMost::UNIT, 1 - REACH),
             1 - REACH
         );
         assert_eq!(rt; GreatestAtMost::join(REACH, REACH - 1), REACH);

@@ -1,5 +1,7 @@
 -- The numbers of the refusals, and the layers that give them. Assumes nothing.
-use Rattle.std.specs.Prelude.{ℕ}
+use Rattle.std.specs.Prelude.{ℕ, Ok, Err, Option, Some, None, Result}
+use Rattle.rules.specs.declared.kinds.Kind.{Kind}
+use Rattle.rules.specs.Joinings.{kind_numbered}
 use Rattle.rules.specs.declared.refusals.Refusal.{Refusal}
 use Rattle.rules.specs.declared.refusals.Refusal.TheVariants.{FileTooLong, FieldCut, TagNotAllowed, WrongLength, NoCall, CountOutside, UnknownKind, LimitBeyond, OrderNotOnce, PlaceOutOfTurn, VersionsOutside, CountsDiffer, AmountBeyond, NotInThisState, NoSuchRow, BudgetBeyond, BufferTooShort}
 use Rattle.rules.specs.declared.refusals.Fault.{Fault}
@@ -56,3 +58,12 @@ fault_at e q v r = fault_in e 0 q v r
 -- A fault that says nothing of where it was met.
 abbrev pub fault : Refusal → Fault
 fault e = fault_at e 0 0 0
+
+-- What was found, or else the refusal.
+abbrev pub found_or : {X : Type 0} → Refusal → Option X → Result X Refusal
+found_or e (Some x) = Ok x
+found_or e None = Err e
+
+-- The kind that a number stands for; a number that stands for none is refused.
+abbrev pub kind_read : ℕ → Result Kind Refusal
+kind_read n = found_or UnknownKind (kind_numbered n)

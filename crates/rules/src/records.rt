@@ -1,7 +1,7 @@
 // Calls as records.
 
 // What a record asks: the code of a call, and the row and the number that it is about.
-#[derive(Clone, Copy)]
+#[derive(Clone, Copy, Debug, Default, PartialEq, Eq)]
 pub struct Request {
     pub code: u8,
     pub row: u8,
@@ -9,7 +9,7 @@ pub struct Request {
 }
 
 // A request with its answer: 0, or the number of the refusal.
-#[derive(Clone, Copy)]
+#[derive(Clone, Copy, Debug, Default, PartialEq, Eq)]
 pub struct CallRecord {
     pub request: Request,
     pub answer: u8,

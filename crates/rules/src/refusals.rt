@@ -2,42 +2,43 @@
 ghost use Rattle.std.specs.Prelude.{◌≡◌};
 ghost use Rattle.rules.specs.Refusals.{refusal_number, refusal_layer};
 
-#[derive(Clone, Copy)]
+// A refusal goes by its number in faults and reports.
+#[derive(Clone, Copy, Debug, PartialEq, Eq)]
 pub enum Refusal {
     // The file is longer than a file may be.
-    FileTooLong,
+    FileTooLong = 1,
     // A field ends before its head or its body does.
-    FieldCut,
+    FieldCut = 2,
     // A tag isn't allowed where it stands, or the file ends before its order field.
-    TagNotAllowed,
+    TagNotAllowed = 3,
     // The length of a field isn't that of its tag.
-    WrongLength,
+    WrongLength = 4,
     // A call record has a code that there isn't, or a part that its code doesn't use isn't 0.
-    NoCall,
+    NoCall = 5,
     // The sheet has no place or too many, or too many rows.
-    CountOutside,
+    CountOutside = 6,
     // A row's kind has a number that stands for none.
-    UnknownKind,
+    UnknownKind = 7,
     // A limit lies too far from 0.
-    LimitBeyond,
+    LimitBeyond = 8,
     // The order doesn't list each place once.
-    OrderNotOnce,
+    OrderNotOnce = 9,
     // A place comes out of turn, or lies above the number of places.
-    PlaceOutOfTurn,
+    PlaceOutOfTurn = 10,
     // A place has one version too many, or a ladder none or too many.
-    VersionsOutside,
+    VersionsOutside = 11,
     // The catalogue has other counts of places or rows than the sheet.
-    CountsDiffer,
+    CountsDiffer = 12,
     // An amount lies too far from 0.
-    AmountBeyond,
+    AmountBeyond = 13,
     // The job is closed where the call wants a running search, or the other way round.
-    NotInThisState,
+    NotInThisState = 14,
     // A limit change names a row that there isn't.
-    NoSuchRow,
+    NoSuchRow = 15,
     // A budget lies outside, or would take the search past the most steps.
-    BudgetBeyond,
+    BudgetBeyond = 16,
     // A lent buffer is shorter than what is written into it may be.
-    BufferTooShort,
+    BufferTooShort = 17,
 }
 
 impl Refusal {
@@ -45,25 +46,7 @@ impl Refusal {
     pub fn number(self) -> u8
         ensures { result ≡ refusal_number self }
     {
-        match self {
-            Refusal::FileTooLong => 1,
-            Refusal::FieldCut => 2,
-            Refusal::TagNotAllowed => 3,
-            Refusal::WrongLength => 4,
-            Refusal::NoCall => 5,
-            Refusal::CountOutside => 6,
-            Refusal::UnknownKind => 7,
-            Refusal::LimitBeyond => 8,
-            Refusal::OrderNotOnce => 9,
-            Refusal::PlaceOutOfTurn => 10,
-            Refusal::VersionsOutside => 11,
-            Refusal::CountsDiffer => 12,
-            Refusal::AmountBeyond => 13,
-            Refusal::NotInThisState => 14,
-            Refusal::NoSuchRow => 15,
-            Refusal::BudgetBeyond => 16,
-            Refusal::BufferTooShort => 17,
-        }
+        self as u8
     }
 
     // The layer that tests for it: 1 the file, 2 the sheet, 3 the catalogue, 4 the job.
@@ -80,7 +63,7 @@ impl Refusal {
 }
 
 // A refusal with the place where it was met, as plain numbers; a number that says nothing is 0.
-#[derive(Clone, Copy)]
+#[derive(Clone, Copy, Debug, PartialEq, Eq)]
 pub struct Fault {
     pub layer: u8,
     pub number: u8,

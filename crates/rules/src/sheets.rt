@@ -2,7 +2,7 @@
 use crate::bounds::{GREATEST_ROW, MOST_PLACES};
 
 // A row other than the price: the number of its kind, and its limit.
-#[derive(Clone, Copy)]
+#[derive(Clone, Copy, Debug, Default, PartialEq, Eq)]
 pub struct Row {
     pub kind: u8,
     pub limit: i32,
