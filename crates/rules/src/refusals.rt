@@ -1,6 +1,9 @@
 // Why a job or a call is refused.
-ghost use Rattle.std.specs.Prelude.{◌≡◌};
+ghost use Rattle.std.specs.Prelude.{◌≡◌, ◌++◌, Some, codes, decimal};
 ghost use Rattle.rules.specs.Refusals.{refusal_number, refusal_layer};
+
+use std::error::Error;
+use std::fmt;
 
 // A refusal goes by its number in faults and reports.
 #[derive(Clone, Copy, Debug, PartialEq, Eq)]
@@ -61,6 +64,18 @@ impl Refusal {
         }
     }
 }
+
+// What a report says of a refused call.
+impl fmt::Display for Refusal {
+    ghost output = { λ refusal. Some (codes "REFUSED " ++ decimal (refusal_number refusal)) };
+
+    fn fmt<W: fmt::Write>(&self, f: &mut fmt::Formatter<W>) -> fmt::Result {
+        let number = self.number();
+        write!(f, "REFUSED {number}")
+    }
+}
+
+impl Error for Refusal {}
 
 // A refusal with the place where it was met, as plain numbers; a number that says nothing is 0.
 #[derive(Clone, Copy, Debug, PartialEq, Eq)]
