@@ -1,5 +1,5 @@
 -- The calls on a job, what each answers, and how it leaves the job. Assumes nothing.
-use Rattle.std.specs.Prelude.{◌≡◌, ℕ, zero, suc, ◌+◌, ◌<◌, ◌≤◌, cond, List, [], length, ℤ, pos, negsuc, Some, None, Option, nat_le, unsigned_abs}
+use Rattle.std.specs.Prelude.{◌≡◌, ℕ, zero, suc, ◌+◌, ◌<◌, ◌≤◌, if◌then◌else◌, List, [], length, ℤ, pos, negsuc, Some, None, Option, nat_le, unsigned_abs}
 use Rattle.rules.specs.declared.refusals.Refusal.{Refusal}
 use Rattle.rules.specs.declared.refusals.Refusal.TheVariants.{LimitBeyond, NotInThisState, NoSuchRow, BudgetBeyond}
 use Rattle.rules.specs.Bounds.{greatest_limit, most_steps}
@@ -139,9 +139,12 @@ module _ (S : Setting) where
   -- What a call answers and how it leaves the job, worked out.
   unfoldable pub reply : Job → Call → Reply
   reply (closed L gs v) (change row limit) =
-      cond (nat_le row S.last_row)
-      (cond (nat_le (unsigned_abs limit) greatest_limit) (replied taken (closed (changed L row limit) gs None)) (replied (refused LimitBeyond) (closed L gs v)))
-      (replied (refused NoSuchRow) (closed L gs v))
+      if nat_le row S.last_row
+      then
+        (if nat_le (unsigned_abs limit) greatest_limit
+        then replied taken (closed (changed L row limit) gs None)
+        else replied (refused LimitBeyond) (closed L gs v))
+      else replied (refused NoSuchRow) (closed L gs v)
   reply (closed L gs v) clear = replied taken (closed L [] None)
   reply (closed L gs v) begin_search = replied taken (running L (start S L gs))
   reply (closed L gs v) close = replied (refused NotInThisState) (closed L gs v)
@@ -151,5 +154,5 @@ module _ (S : Setting) where
   reply (running L σ) begin_search = replied (refused NotInThisState) (running L σ)
   reply (running L σ) close = replied taken (closed L σ.learned (Some (verdict σ (next S L σ))))
   reply (running L σ) (run (pos budget)) =
-      cond (nat_le (σ.steps + budget) most_steps) (run_reply L (run_from L budget σ)) (replied (refused BudgetBeyond) (running L σ))
+      if nat_le (σ.steps + budget) most_steps then run_reply L (run_from L budget σ) else replied (refused BudgetBeyond) (running L σ)
   reply (running L σ) (run (negsuc below)) = replied (refused BudgetBeyond) (running L σ)

@@ -1,5 +1,5 @@
 -- What a catalogue means, and what it answers. Assumes nothing.
-use Rattle.std.specs.Prelude.{◌≡◌, ℕ, ◌-◌, ◌<◌, ◌≤◌, Bool, cond, ◌&&◌, ℤ, pos, ◌+ℤ◌, ◌*ℤ◌, Some, None, Option, nat_le, nat_lt, unsigned_abs}
+use Rattle.std.specs.Prelude.{◌≡◌, ℕ, ◌-◌, ◌<◌, ◌≤◌, Bool, if◌then◌else◌, ◌&&◌, ℤ, pos, ◌+ℤ◌, ◌*ℤ◌, Some, None, Option, nat_le, nat_lt, unsigned_abs}
 use Rattle.rules.specs.Bounds.{most_places, most_rows, most_versions, amount_reach}
 
 -- The meaning of a catalogue. Places and versions are numbered from 1, rows from 0.
@@ -30,11 +30,11 @@ has_amount m row q v = nat_lt row m.rows && (has_place m q && (nat_le 1 v && nat
 
 -- Asked for the versions of a place, a catalogue answers how many there are, and "none" exactly outside the meaning.
 abbrev pub versions_told : Meaning → ℕ → Option ℕ
-versions_told m q = cond (has_place m q) (Some (m.versions q)) None
+versions_told m q = if has_place m q then Some (m.versions q) else None
 
 -- Asked for an amount, a catalogue answers it, and "none" exactly outside the meaning.
 abbrev pub amount_told : Meaning → ℕ → ℕ → ℕ → Option ℤ
-amount_told m row q v = cond (has_amount m row q v) (Some (m.amount row q v)) None
+amount_told m row q v = if has_amount m row q v then Some (m.amount row q v) else None
 
 -- Two catalogues answer every question alike.
 pub record SameAnswers (a b : Meaning) : Type 0 where

@@ -1,6 +1,6 @@
 -- Choices of a version for each place: which keep the limits, which is cheapest, and what a closing ground says of them.
 -- Nothing here knows of positions, searches or ledgers. Assumes nothing.
-use Rattle.std.specs.Prelude.{◌≡◌, ℕ, ◌+◌, ◌-◌, ◌*◌, ◌<◌, ◌≤◌, true, false, cond, List, [], ◌∷◌, length, ℤ, pos, ◌-ℤ◌, ◌≤ℤ◌, Some, None, Option, ◌==◌, slice_index, unsigned_abs}
+use Rattle.std.specs.Prelude.{◌≡◌, ℕ, ◌+◌, ◌-◌, ◌*◌, ◌<◌, ◌≤◌, true, false, if◌then◌else◌, List, [], ◌∷◌, length, ℤ, pos, ◌-ℤ◌, ◌≤ℤ◌, Some, None, Option, ◌==◌, slice_index, unsigned_abs}
 use Rattle.std.specs.List.{AllByRecursion}
 use Rattle.rules.specs.declared.lines.ClosingLine.{ClosingLine}
 use Rattle.rules.specs.declared.sheets.Sheet.{Sheet}
@@ -11,7 +11,7 @@ use Rattle.rules.specs.Sheets.{Limits, last_row, joining_of}
 
 -- The limits with another one on a row.
 abbrev pub changed : Limits → ℕ → ℤ → Limits
-changed L row limit r = cond (r == row) limit (L r)
+changed L row limit r = if r == row then limit else L r
 
 -- The limits with another cap on the price.
 abbrev pub capped : Limits → ℤ → Limits

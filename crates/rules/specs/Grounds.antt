@@ -1,5 +1,5 @@
 -- Part-choices, lines and grounds: when they stand, and how a ground is learned. Assumes nothing.
-use Rattle.std.specs.Prelude.{◌≡◌, ℕ, zero, suc, ◌-◌, ◌<◌, ◌≤◌, Bool, true, cond, ◌&&◌, ◌||◌, List, [], ◌∷◌, ◌++◌, map, length, ℤ, is_some, Some, None, Option, ◌==◌, nat_le, nat_lt}
+use Rattle.std.specs.Prelude.{◌≡◌, ℕ, zero, suc, ◌-◌, ◌<◌, ◌≤◌, Bool, true, if◌then◌else◌, ◌&&◌, ◌||◌, List, [], ◌∷◌, ◌++◌, map, length, ℤ, is_some, Some, None, Option, ◌==◌, nat_le, nat_lt}
 use Rattle.std.specs.List.{AllByRecursion}
 use Rattle.rules.specs.declared.lines.Line.{Line}
 use Rattle.rules.specs.Joinings.{Joining, Laws, onto, sum_at_most}
@@ -67,7 +67,7 @@ module _ (S : Setting) where
   abbrev pub joined_above : ℕ → ℕ → ℤ → Part → ℤ
   joined_above row level k [] = k
   joined_above row level k (v ∷ t) =
-      cond (nat_lt level (open_places t)) (with_amount row (open_places t) v (joined_above row level k t)) (joined_above row level k t)
+      if nat_lt level (open_places t) then with_amount row (open_places t) v (joined_above row level k t) else joined_above row level k t
 
   -- The row's amounts joined over the places that are set: with none open, a choice's total.
   abbrev pub part_total : ℕ → Part → ℤ
@@ -90,7 +90,7 @@ module _ (S : Setting) where
   -- The first ground of a list that stands.
   abbrev pub first_standing : Limits → List Ground → Part → Option Ground
   first_standing L [] s = None
-  first_standing L (g ∷ gs) s = cond (stands L s g) (Some g) (first_standing L gs s)
+  first_standing L (g ∷ gs) s = if stands L s g then Some g else first_standing L gs s
 
   -- Some ground of a list stands.
   abbrev pub blocked : Limits → List Ground → Part → Bool
@@ -112,18 +112,21 @@ module _ (S : Setting) where
   -- A line of a ground that stands once version v is put on t, as it is learned at the position of v: one that lies right below the position goes up to it, with the amount of v joined on.
   abbrev pub moved : Part → ℕ → Line → Line
   moved t v l =
-      cond (suc l.level == open_places t)
-      (record { row = l.row; level = open_places t; constant = with_amount l.row (open_places t) v l.constant })
-      l
+      if suc l.level == open_places t
+      then record { row = l.row; level = open_places t; constant = with_amount l.row (open_places t) v l.constant }
+      else l
 
   -- Of two lines with equal row and level, the one whose constant isn't worse.
   abbrev pub kept : Line → Line → Line
-  kept a b = cond ((S.joining a.row).worse a.constant b.constant) b a
+  kept a b = if (S.joining a.row).worse a.constant b.constant then b else a
 
   -- One line more in a ground.
   abbrev pub with_line : Line → Ground → Ground
   with_line a [] = a ∷ []
-  with_line a (b ∷ g) = cond (before a b) (a ∷ b ∷ g) (cond (same_place a b) (kept a b ∷ g) (b ∷ with_line a g))
+  with_line a (b ∷ g) = 
+      if before a b then a ∷ b ∷ g
+      else if same_place a b then kept a b ∷ g
+      else b ∷ with_line a g
 
   -- Several lines more.
   abbrev pub with_lines : List Line → Ground → Ground

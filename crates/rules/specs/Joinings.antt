@@ -1,5 +1,5 @@
 -- How the amounts of a row are joined, and which of two is worse. Assumes nothing.
-use Rattle.std.specs.Prelude.{◌≡◌, ℕ, zero, suc, ◌+◌, ◌-◌, ◌≤◌, Bool, true, false, cond, not, ℤ, pos, negsuc, ◌+ℤ◌, Some, None, Option, ◌==◌, ◌≢◌, int_lt, unsigned_abs}
+use Rattle.std.specs.Prelude.{◌≡◌, ℕ, zero, suc, ◌+◌, ◌-◌, ◌≤◌, Bool, true, false, if◌then◌else◌, not, ℤ, pos, negsuc, ◌+ℤ◌, Some, None, Option, ◌==◌, ◌≢◌, int_lt, unsigned_abs}
 use Rattle.std.specs.Int.{int_max}
 use Rattle.rules.specs.declared.kinds.Kind.{Kind}
 use Rattle.rules.specs.declared.kinds.Kind.TheVariants.{SumAtMost, SumAtLeast, GreatestAtMost}
@@ -64,4 +64,7 @@ kind_number GreatestAtMost = 3
 -- The kind that a number stands for, if it stands for one.
 abbrev pub kind_numbered : ℕ → Option Kind
 kind_numbered n =
-    cond (n == 1) (Some SumAtMost) (cond (n == 2) (Some SumAtLeast) (cond (n == 3) (Some GreatestAtMost) None))
+    if n == 1 then Some SumAtMost
+    else if n == 2 then Some SumAtLeast
+    else if n == 3 then Some GreatestAtMost
+    else None

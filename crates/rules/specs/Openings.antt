@@ -1,5 +1,5 @@
 -- What is tested when a job is opened with a sheet and a catalogue. Assumes nothing.
-use Rattle.std.specs.Prelude.{◌≡◌, ℕ, zero, suc, ◌-◌, ◌≤◌, Bool, true, false, cond, ◌&&◌, ◌||◌, List, [], ◌∷◌, ◌++◌, length, is_some, Some, None, Option, ◌==◌, nat_le, unsigned_abs}
+use Rattle.std.specs.Prelude.{◌≡◌, ℕ, zero, suc, ◌-◌, ◌≤◌, Bool, true, false, if◌then◌else◌, ◌&&◌, ◌||◌, List, [], ◌∷◌, ◌++◌, length, is_some, Some, None, Option, ◌==◌, nat_le, unsigned_abs}
 use Rattle.rules.specs.declared.kinds.Kind.{Kind}
 use Rattle.rules.specs.declared.refusals.Fault.{Fault}
 use Rattle.rules.specs.declared.refusals.Refusal.TheVariants.{CountOutside, UnknownKind, LimitBeyond, OrderNotOnce, CountsDiffer, AmountBeyond}
@@ -31,7 +31,7 @@ each_to f (suc k) = each_to f k ++ f (suc k)
 
 -- A test gives no fault, or its own.
 abbrev pub test : Bool → Fault → Option Fault
-test good f = cond good None (Some f)
+test good f = if good then None else Some f
 
 -- A number is in a list.
 abbrev pub contains : ℕ → List ℕ → Bool

@@ -1,5 +1,5 @@
 -- Calls that come as a list of call records, on a job that is opened for them: what comes of them, and that it is right at every time. Assumes nothing.
-use Rattle.std.specs.Prelude.{◌≡◌, ℕ, cond, ◌&&◌, List, [], ◌∷◌, map, reverse, pos, Some, None, Option, ◌==◌, ◌≢◌, nat_eq, unsigned_abs}
+use Rattle.std.specs.Prelude.{◌≡◌, ℕ, if◌then◌else◌, ◌&&◌, List, [], ◌∷◌, map, reverse, pos, Some, None, Option, ◌==◌, ◌≢◌, nat_eq, unsigned_abs}
 use Rattle.std.specs.List.{AllByRecursion}
 use Rattle.rules.specs.declared.records.CallRecord.{CallRecord}
 use Rattle.rules.specs.declared.records.Request.{Request}
@@ -76,11 +76,12 @@ unfoldable pub asked : Request → Option Call
 asked r =
     let rowless = nat_eq r.row 0 in
     let bare = rowless && nat_eq (unsigned_abs r.number) 0 in
-    cond (r.code == 1) (Some (change r.row r.number))
-    (cond (r.code == 2 && bare) (Some clear)
-    (cond (r.code == 3 && bare) (Some begin_search)
-    (cond (r.code == 4 && rowless) (Some (run r.number))
-    (cond (r.code == 5 && bare) (Some close) None))))
+    if r.code == 1 then Some (change r.row r.number)
+    else if r.code == 2 && bare then Some clear
+    else if r.code == 3 && bare then Some begin_search
+    else if r.code == 4 && rowless then Some (run r.number)
+    else if r.code == 5 && bare then Some close
+    else None
 
 -- A record with its answer given; what it asks stays.
 abbrev pub answered : CallRecord → ℕ → CallRecord

@@ -1,5 +1,5 @@
 -- A search: its states, and the step that the rules name at each. Assumes nothing.
-use Rattle.std.specs.Prelude.{◌≡◌, ℕ, zero, suc, ◌+◌, ◌<◌, ◌≤◌, Bool, true, false, cond, ◌&&◌, List, [], ◌∷◌, ◌++◌, length, replicate, ℤ, pos, ◌-ℤ◌, Some, None, Option, ◌==◌, nat_le, nat_lt}
+use Rattle.std.specs.Prelude.{◌≡◌, ℕ, zero, suc, ◌+◌, ◌<◌, ◌≤◌, Bool, true, false, if◌then◌else◌, ◌&&◌, List, [], ◌∷◌, ◌++◌, length, replicate, ℤ, pos, ◌-ℤ◌, Some, None, Option, ◌==◌, nat_le, nat_lt}
 use Rattle.rules.specs.Bounds.{most_grounds, most_lines}
 use Rattle.rules.specs.Sheets.{Limits}
 use Rattle.rules.specs.Choices.{capped}
@@ -115,12 +115,12 @@ module _ (S : Setting) (L : Limits) where
   abbrev pub lowest_free : State → Part → ℕ → Option ℕ
   lowest_free σ t zero = None
   lowest_free σ t (suc k) =
-      elim (lowest_free σ t k) [ Some w ↦ Some w | None ↦ cond (stopped σ (suc k ∷ t)) None (Some (suc k)) ]
+      elim (lowest_free σ t k) [ Some w ↦ Some w | None ↦ if stopped σ (suc k ∷ t) then None else Some (suc k) ]
 
   -- A place takes the free version found; or a ground is learned, where there is space.
   abbrev pub try_place : State → Part → Option ℕ → Outcome
   try_place σ t (Some w) = stepped (at_part σ (w ∷ t))
-  try_place σ t None = cond (room σ.learned (ground_at σ t)) (stepped (with_ground σ t (ground_at σ t))) full
+  try_place σ t None = if room σ.learned (ground_at σ t) then stepped (with_ground σ t (ground_at σ t)) else full
 
   -- The next step at the place set next after t.
   abbrev pub go_on : State → Part → Outcome
@@ -134,7 +134,7 @@ module _ (S : Setting) (L : Limits) where
   -- With a ground that stands, or with none.
   abbrev pub by_ground : State → Option Ground → Outcome
   by_ground σ (Some g) = after_ground σ g σ.part
-  by_ground σ None = cond (open_places S σ.part == 0) (stepped (with_best σ)) (go_on σ σ.part)
+  by_ground σ None = if open_places S σ.part == 0 then stepped (with_best σ) else go_on σ σ.part
 
   -- What the rules name at a state, worked out.
   unfoldable pub next : State → Outcome

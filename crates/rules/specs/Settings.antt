@@ -1,5 +1,5 @@
 -- Positions and places: a catalogue seen through the order of a sheet, and what a search finds in that order, by place. Assumes nothing.
-use Rattle.std.specs.Prelude.{◌≡◌, ℕ, zero, suc, ◌-◌, true, cond, List, [], ◌∷◌, ◌++◌, map, ℤ, pos, Some, None, Option, ◌==◌, slice_index}
+use Rattle.std.specs.Prelude.{◌≡◌, ℕ, zero, suc, ◌-◌, true, if◌then◌else◌, List, [], ◌∷◌, ◌++◌, map, ℤ, pos, Some, None, Option, ◌==◌, slice_index}
 use Rattle.rules.specs.declared.lines.ClosingLine.{ClosingLine}
 use Rattle.rules.specs.declared.sheets.Sheet.{Sheet}
 use Rattle.rules.specs.Catalogues.{Meaning, has_place, has_amount}
@@ -10,11 +10,11 @@ use Rattle.rules.specs.Calls.{Finding, least, nothing, filled, unfinished, Verdi
 
 -- The versions of a place, and 0 outside the meaning.
 abbrev pub versions_in : Meaning → ℕ → ℕ
-versions_in m q = cond (has_place m q) (m.versions q) 0
+versions_in m q = if has_place m q then m.versions q else 0
 
 -- An amount, and 0 outside the meaning.
 abbrev pub amount_in : Meaning → ℕ → ℕ → ℕ → ℤ
-amount_in m row q v = cond (has_amount m row q v) (m.amount row q v) (pos 0)
+amount_in m row q v = if has_amount m row q v then m.amount row q v else pos 0
 
 -- The place at a position of an order.
 abbrev pub place_at : List ℕ → ℕ → ℕ
@@ -39,7 +39,7 @@ by_position s c = map (version c) (order_of s)
 abbrev pub version_in : List ℕ → Part → ℕ → ℕ
 version_in [] c q = 0
 version_in (x ∷ order) [] q = 0
-version_in (x ∷ order) (v ∷ c) q = cond (x == q) v (version_in order c q)
+version_in (x ∷ order) (v ∷ c) q = if x == q then v else version_in order c q
 
 -- The versions of the places from 1 up to one.
 abbrev pub versions_to : List ℕ → Part → ℕ → List ℕ
