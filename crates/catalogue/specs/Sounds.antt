@@ -1,4 +1,5 @@
--- The meanings of the delivered catalogues keep the bounds. Here and not in proofs/, since the law of an implementation may name only specs/. Assumes nothing.
+-- The meanings of the delivered catalogues keep the bounds. Assumes nothing.
+-- It stands in specs/ and not in proofs/, since an implementation's law may name only specs/.
 use Rattle.std.specs.Prelude.{◌≡◌, ℕ, zero, suc, ◌+◌, ◌-◌, ◌*◌, ◌^◌, ◌<◌, ◌≤◌, List, length, slice_index_or, All, ℤ, pos, negsuc, ◌*ℤ◌, neg_ℤ, nat_le, unsigned_abs, refl}
 use Rattle.std.proofs.Common.{⊎_elim, mul-le-mul, arith}
 use Rattle.std.proofs.lemmas.Int.{ints}

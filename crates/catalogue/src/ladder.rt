@@ -76,7 +76,7 @@ impl Catalogue for Ladder {
     }
 
     fn versions(&self, place: u8) -> Option<u8> {
-        Some(numbered(&self.places, place)?.count)
+        numbered(&self.places, place).map(|p| p.count)
     }
 
     fn amount(&self, row: u8, place: u8, version: u8) -> Option<i64> {

@@ -12,6 +12,7 @@ use crate::Catalogue;
 use crate::places::{check_rows, numbered};
 use arrayvec::ArrayVec;
 use rules::{MOST_PLACES, MOST_VERSIONS, Refusal};
+use std::array;
 
 // The bytes at the front of a version field, before its amounts.
 const FRONT: usize = 4;
@@ -166,19 +167,7 @@ fn number(bytes: &[u8], at: usize) -> i32
     requires { at + 4 ≤ 2 ^ 64 }
     ensures { result ≡ number_at bytes.now at }
 {
-    i32::from_be_bytes([
-        byte(bytes, at),
-        byte(bytes, at + 1),
-        byte(bytes, at + 2),
-        byte(bytes, at + 3),
-    ])
-}
-
-// Each element of a slice of bytes is a byte.
-fn bytes_are_small(bytes: &[u8])
-    ensures { Bytes bytes.now }
-{
-    let _first = bytes.first();
+    i32::from_be_bytes(array::from_fn(|i| byte(bytes, at + i)))
 }
 
 impl<'a> Listed<'a> {
@@ -187,7 +176,7 @@ impl<'a> Listed<'a> {
         ensures bytes { result.bytes.now ≡ bytes.now }
         ensures listing { result.listing ≡ listing }
     {
-        bytes_are_small(bytes);
+        let _first = bytes.first();
         Listed { bytes, listing }
     }
 }
@@ -206,7 +195,7 @@ impl<'a> Catalogue for Listed<'a> {
     }
 
     fn versions(&self, place: u8) -> Option<u8> {
-        Some(numbered(&self.listing.places, place)?.count)
+        numbered(&self.listing.places, place).map(|p| p.count)
     }
 
     fn amount(&self, row: u8, place: u8, version: u8) -> Option<i64> {
