@@ -4,3 +4,4 @@ pub mod Places
 pub mod FewLines
 pub mod Drafting
 pub mod Cuts
+pub mod Told
