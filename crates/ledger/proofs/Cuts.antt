@@ -7,9 +7,9 @@ use Rattle.rules.specs.declared.lines.Line.{Line}
 use Rattle.rules.specs.Grounds.{Ground}
 use Rattle.rules.specs.Bounds.{most_grounds, most_lines}
 use Rattle.rules.specs.Search.{line_count, room}
-use Rattle.ledger.specs.Lines.{AllNear, all_near}
+use Rattle.ledger.specs.Lines.{AllNear}
 use Rattle.ledger.specs.Tables.{cut, grounds_of, adjoin}
-use Rattle.ledger.specs.Model.{held, takes}
+use Rattle.ledger.specs.Model.{held}
 use Rattle.ledger.specs.declared.records.GroundRecord.{GroundRecord}
 use Rattle.ledger.specs.declared.table.Ledger.{Ledger}
 use Rattle.ledger.proofs.Nears.{near_none, near_part}
@@ -122,6 +122,6 @@ pub line_count_push : (gs : List Ground) (g : Ground) → line_count (gs ++ (g �
 line_count_push [] g = omega arith
 line_count_push (h ∷ gs) g = omega (arith, line_count_push gs g)
 
--- what is taken has its space
-pub takes_fit : (gs : List Ground) (g : Ground) → takes gs g ≡ true → line_count gs + length g ≤ most_lines
-takes_fit gs g h = let fits = (and_parts (ltb (length gs) most_grounds) _ (and_parts (room gs g) (all_near g) h).0).1 in leb-true _ _ fits
+-- what there is space for has it
+pub room_fits : (gs : List Ground) (g : Ground) → room gs g ≡ true → line_count gs + length g ≤ most_lines
+room_fits gs g h = leb-true _ _ (and_parts (ltb (length gs) most_grounds) _ h).1

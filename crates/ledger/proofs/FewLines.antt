@@ -3,6 +3,8 @@ use Rattle.std.proofs.Common.{◌≡◌, ℕ, suc, ◌+◌, ◌*◌, ◌≤◌, 
 use Rattle.std.specs.List.{AllByRecursion, list_all}
 use Rattle.std.proofs.lemmas.Bool.{and_parts, and_from}
 use Rattle.std.proofs.lemmas.Bool.Decides.{nat_tests}
+use Rattle.std.proofs.lemmas.List.Elements.{All-from_recursion, recursion_from_All}
+use Rattle.std.proofs.lemmas.List.Sums.{AllPass-from_list_all, list_all-from_AllPass}
 use Rattle.rules.specs.declared.lines.Line.{Line}
 use Rattle.rules.specs.Bounds.{most_places}
 use Rattle.rules.specs.Grounds.{Ground, Ordered, before}
@@ -10,21 +12,15 @@ use Rattle.ledger.specs.Lines.{Near}
 use Rattle.ledger.specs.Places.{most_drafted, rising}
 
 -- the order as a test, and as a fact
-led_since : (a : Line) (g : Ground) → list_all (before a) g ≡ true → AllByRecursion (λ b. before a b ≡ true) g
-led_since a [] h = tt
-led_since a (b ∷ g) h = let parts = and_parts (before a b) _ h in (parts.0, led_since a g parts.1)
-
-since_led : (a : Line) (g : Ground) → AllByRecursion (λ b. before a b ≡ true) g → list_all (before a) g ≡ true
-since_led a [] h = refl
-since_led a (b ∷ g) h = and_from (before a b) _ h.0 (since_led a g h.1)
-
 pub ordered_since : (g : Ground) → rising g ≡ true → Ordered g
 ordered_since [] h = tt
-ordered_since (a ∷ g) h = let parts = and_parts (list_all (before a) g) _ h in (led_since a g parts.0, ordered_since g parts.1)
+ordered_since (a ∷ g) h =
+    let parts = and_parts (list_all (before a) g) _ h in
+    (recursion_from_All (λ b. before a b ≡ true) g (AllPass-from_list_all (before a) g parts.0), ordered_since g parts.1)
 
 pub since_ordered : (g : Ground) → Ordered g → rising g ≡ true
 since_ordered [] h = refl
-since_ordered (a ∷ g) h = and_from (list_all (before a) g) _ (since_led a g h.0) (since_ordered g h.1)
+since_ordered (a ∷ g) h = and_from (list_all (before a) g) _ (list_all-from_AllPass (before a) g (All-from_recursion (λ b. before a b ≡ true) g h.0)) (since_ordered g h.1)
 
 -- the number of a row and level
 abbrev key : Line → ℕ

@@ -1,11 +1,12 @@
 -- A line put in at the place that a search finds. Assumes nothing.
-use Rattle.std.proofs.Common.{◌≡◌, ℕ, zero, suc, ◌<◌, ◌≤◌, Bool, true, false, ◌∷◌, [], length, get_or, set, Ordering, Less, Equal, Greater, Result, Ok, Err, IfOk, IfErr, sym, refl, ap, ◌∙◌, inl, inr, arith}
+use Rattle.std.proofs.Common.{◌≡◌, ℕ, zero, suc, ◌<◌, ◌≤◌, true, false, ◌∷◌, [], length, get_or, set, Ordering, Less, Equal, Greater, Result, Ok, Err, IfOk, IfErr, sym, refl, ap, ◌∙◌, inl, inr, arith}
 use Rattle.std.specs.List.{insert, list_all}
 use Rattle.std.specs.List.Sorted.{IsNonDecreasingBy, IsSearchInRange, IsBinarySearchResult}
 use Rattle.std.specs.Ordering.{nat_cmp, ordering_then, ordering_index}
 use Rattle.std.proofs.lemmas.Bool.{and_parts, cases_lt, cond-true, cond-false}
 use Rattle.std.proofs.lemmas.Bool.Decides.{nat_tests}
 use Rattle.std.proofs.lemmas.List.Sorted.{IsNonDecreasingBy-from_default}
+use Rattle.std.proofs.lemmas.List.Sums.{AllPass-from_list_all}
 use Rattle.rules.specs.declared.lines.Line.{Line}
 use Rattle.rules.specs.Grounds.{Setting, Ground, before, same_place, kept, with_line}
 use Rattle.ledger.specs.Lines.{no_line}
@@ -30,15 +31,10 @@ before_less b c a h e = grind (arith, nat_tests)
 before_rises : (b c a : Line) → before b c ≡ true → ordering_index (by_place b a) ≤ ordering_index (by_place c a)
 before_rises b c a h = grind (arith, nat_tests)
 
-all_at : (p : Line → Bool) (g : Ground) (i : ℕ) → list_all p g ≡ true → i < length g → p (get_or g i no_line) ≡ true
-all_at p (b ∷ g) zero all within = (and_parts (p b) _ all).0
-all_at p (b ∷ g) (suc i) all within = all_at p g i (and_parts (p b) _ all).1 (omega arith)
-all_at p [] i all within = absurd (omega arith)
-
 rising_at : (g : Ground) (i j : ℕ) → rising g ≡ true → i < j → j < length g → before (get_or g i no_line) (get_or g j no_line) ≡ true
 rising_at [] i j rise lt within = absurd (omega arith)
 rising_at (b ∷ g) zero zero rise lt within = absurd (omega arith)
-rising_at (b ∷ g) zero (suc j) rise lt within = all_at (before b) g j (and_parts (list_all (before b) g) _ rise).0 (omega arith)
+rising_at (b ∷ g) zero (suc j) rise lt within = AllPass-from_list_all (before b) g (and_parts (list_all (before b) g) _ rise).0 j no_line (omega arith)
 rising_at (b ∷ g) (suc i) zero rise lt within = absurd (omega arith)
 rising_at (b ∷ g) (suc i) (suc j) rise lt within = rising_at g i j (and_parts (list_all (before b) g) _ rise).1 (omega arith) (omega arith)
 
@@ -68,7 +64,7 @@ module _ (S : Setting) (a : Line) where
       sym (cond-false (before a b) _ _ there.0 ∙ cond-true (same_place a b) _ _ there.1)
   with_same (b ∷ g) (suc i) rise within same =
       let parts = and_parts (list_all (before b) g) _ rise in
-      let passed = less_passed b a (before_less b (get_or g i no_line) a (all_at (before b) g i parts.0 (omega arith)) same) in
+      let passed = less_passed b a (before_less b (get_or g i no_line) a (AllPass-from_list_all (before b) g parts.0 i no_line (omega arith)) same) in
       ap (λ t. b ∷ t) (with_same g i parts.1 (omega arith) same)
       ∙ sym (cond-false (before a b) _ _ passed.0 ∙ cond-false (same_place a b) _ _ passed.1)
 

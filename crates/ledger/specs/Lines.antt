@@ -4,7 +4,7 @@ use Rattle.std.specs.List.{list_all}
 use Rattle.rules.specs.declared.lines.Line.{Line}
 use Rattle.rules.specs.Bounds.{greatest_row, most_places, amount_reach, greatest_amount}
 
--- What stands in a table where no line is yet.
+-- What is read past the end of a list of lines.
 abbrev pub no_line : Line
 no_line = record { row = 0; level = 0; constant = pos 0 }
 

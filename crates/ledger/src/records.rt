@@ -1,5 +1,5 @@
 // Where the lines of a ground lie in the table of lines: from one index up to another.
-#[derive(Clone, Copy, Debug, Default, PartialEq, Eq)]
+#[derive(Clone, Copy, Default)]
 pub struct GroundRecord {
     pub start: usize,
     pub end: usize,

@@ -18,6 +18,7 @@ impl Ledger {
     }
 
     // How many lines the grounds have together.
+    #[tactic(auto, using(crate::proofs::Cuts::counted))]
     pub fn lines_held(&self) -> usize
         ensures is { result ≡ line_count (held self.now) }
         ensures most { result ≤ most_lines }

@@ -1,10 +1,10 @@
 // How a ledger is filled and cleared.
-ghost use Rattle.std.specs.Prelude.{◌≡◌, ◌+◌, ◌<◌, true, List, [], ◌∷◌, ◌++◌, length, is_ok, if◌then◌else◌};
+ghost use Rattle.std.specs.Prelude.{◌≡◌, ◌<◌, List, [], ◌∷◌, ◌++◌, length, is_ok, if◌then◌else◌};
 ghost use Rattle.rules.specs.Bounds.{most_grounds, most_lines};
 ghost use Rattle.rules.specs.Grounds.{Ground};
 ghost use Rattle.rules.specs.Search.{line_count};
 ghost use Rattle.ledger.specs.Lines.{Near};
-ghost use Rattle.ledger.specs.Model.{held, takes};
+ghost use Rattle.ledger.specs.Model.{held};
 ghost use Rattle.ledger.specs.Answers.{push_answer};
 
 use crate::near::are_near;
@@ -36,7 +36,7 @@ impl Ledger {
     // Begins a ground that has no line yet.
     fn open(&mut self)
         requires { length (held self.old) < most_grounds }
-        ensures { held self.new ≡ held self.old ++ ([] ∷ []) }
+        ensures { held self.new ≡ held self.old ++ [] ∷ [] }
     {
         let at = self.lines.len();
         self.grounds.push(GroundRecord { start: at, end: at });
@@ -47,28 +47,17 @@ impl Ledger {
         requires open { 0 < length (held self.old) }
         requires room { line_count (held self.old) < most_lines }
         requires near { Near line }
-        ensures { (older : List Ground) (newest : Ground) → held self.old ≡ older ++ (newest ∷ []) → held self.new ≡ older ++ ((newest ++ (line ∷ [])) ∷ []) }
+        ensures { (older : List Ground) (newest : Ground) → held self.old ≡ older ++ newest ∷ [] → held self.new ≡ older ++ (newest ++ line ∷ []) ∷ [] }
     {
         let newest = self.grounds.len() - 1;
         self.lines.push(line);
         self.grounds[newest].end = self.lines.len();
     }
 
-    // Adds a ground that is taken behind the others.
-    fn append(&mut self, ground: &[Line])
-        requires { takes (held self.old) ground.now ≡ true }
-        ensures { held self.new ≡ held self.old ++ (ground.now ∷ []) }
-    {
-        self.open();
-        for line in ground {
-            self.put_line(*line);
-        }
-    }
-
     // Adds a ground behind the others; nothing is altered where there is no space for it, or a line is none that the tables hold.
     pub fn push(&mut self, ground: &[Line]) -> Result<(), Unheld>
         ensures told { result ≡ push_answer (held self.old) ground.now }
-        ensures held { held self.new ≡ (if is_ok result then held self.old ++ (ground.now ∷ []) else held self.old) }
+        ensures held { held self.new ≡ (if is_ok result then held self.old ++ ground.now ∷ [] else held self.old) }
     {
         if !self.has_room(ground) {
             return Err(Unheld::NoSpace);
@@ -76,7 +65,10 @@ impl Ledger {
         if !are_near(ground) {
             return Err(Unheld::FarLine);
         }
-        self.append(ground);
+        self.open();
+        for line in ground {
+            self.put_line(*line);
+        }
         Ok(())
     }
 }
