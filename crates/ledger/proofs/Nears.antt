@@ -28,7 +28,7 @@ since_all_near [] h = refl
 since_all_near (l ∷ ls) h = and_from (near l) (all_near ls) (since_near l (h 0)) (since_all_near ls (λ k. h (suc k)))
 
 -- one line more
-pub near_push : (ls : List Line) (l : Line) → AllNear ls → Near l → AllNear (ls ++ (l ∷ []))
+pub near_push : (ls : List Line) (l : Line) → AllNear ls → Near l → AllNear (ls ++ l ∷ [])
 near_push [] l all new zero = new
 near_push [] l all new (suc k) = near_none
 near_push (x ∷ ls) l all new zero = all 0
