@@ -31,7 +31,7 @@ fn joined<J: Joining, C: Catalogue>(
     requires { places ≤ most_places }
     ensures { result ≡ joined_over J.Joining.rule (λ q. amount_in (C.Catalogue.meaning catalogue.now) row q (version versions.now q)) places }
 {
-    let mut total = J::start();
+    let mut total = J::UNIT;
     for place in 0..places {
         let amount = amount_in(catalogue, row, place + 1, versions[usize::from(place)]);
         total = J::join(total, amount);
@@ -59,7 +59,7 @@ pub(crate) fn kind_of(sheet: &Sheet, row: u8) -> Option<Kind>
     if row == 0 {
         return Some(Kind::SumAtMost);
     }
-    Kind::numbered(sheet.rows[usize::from(row) - 1].kind)
+    Kind::try_from(sheet.rows[usize::from(row) - 1].kind).ok()
 }
 
 // The limit of a row.
