@@ -1,13 +1,13 @@
 -- How every choice is tried, worked out. Assumes nothing.
-use Rattle.std.specs.Prelude.{ℕ, zero, suc, ◌-◌, Bool, true, cond, not, ◌&&◌, List, replicate, is_some, Some, None, Ok, Err, Option, Result, ◌==◌, int_lt, slice_set}
+use Rattle.std.specs.Prelude.{ℕ, zero, suc, ◌-◌, Bool, true, cond, not, ◌&&◌, List, replicate, ℤ, is_some, Some, None, Ok, Err, Option, Result, ◌==◌, int_lt, slice_set}
 use Rattle.rules.specs.declared.refusals.Refusal.{Refusal}
 use Rattle.rules.specs.declared.refusals.Refusal.TheVariants.{CountsDiffer, UnknownKind}
 use Rattle.rules.specs.declared.sheets.Sheet.{Sheet}
 use Rattle.rules.specs.Bounds.{most_places}
-use Rattle.rules.specs.Joinings.{kind_numbered}
+use Rattle.rules.specs.Joinings.{Joining, joined_over, kind_numbered}
 use Rattle.rules.specs.Catalogues.{Meaning}
 use Rattle.rules.specs.Sheets.{last_row, kind_of, limit_of, joining_of}
-use Rattle.rules.specs.Choices.{total, price}
+use Rattle.rules.specs.Choices.{version, total, price}
 use Rattle.rules.specs.Settings.{versions_in, amount_in}
 use Rattle.exhaustive.specs.declared.found.Found.{Found}
 
@@ -32,6 +32,10 @@ all_first test zero = true
 all_first test (suc k) = all_first test k && test k
 
 module _ (m : Meaning) (s : Sheet) where
+  -- A row's amounts joined over all places by some joining.
+  abbrev pub joined : Joining → ℕ → List ℕ → ℤ
+  joined J row c = joined_over J (λ q. m.amount row q (version c q)) s.places
+
   -- A row's limit is kept.
   abbrev pub row_kept : List ℕ → ℕ → Bool
   row_kept c row = not ((joining_of s row).worse (total m s row c) (limit_of s row))

@@ -1,5 +1,6 @@
-use Rattle.std.proofs.Common.{◌≡◌, ◌-◌, set}
-use Rattle.exhaustive.specs.Trials.{guarded, cheapest_to, tried}
+use Rattle.std.proofs.Common.{◌≡◌, suc, ◌-◌, ◌≤◌}
+use Rattle.exhaustive.specs.Trials.{guarded}
+use Rattle.exhaustive.proofs.Versions.{next_to}
 use Rattle.exhaustive.proofs.trials.+try_last.Given as goal
 
 abbrev pub decreases-try_last : goal.decreases-try_last
@@ -7,4 +8,5 @@ decreases-try_last g l = l.left
 
 abbrev pub invariant-loop-version : goal.invariant-loop-version
 invariant-loop-version g l =
-    l.best ≡ cheapest_to (λ v. tried (guarded (g.C.Catalogue.meaning l.catalogue)) l.sheet (l.left - 1) (set l.versions l.place v)) l.version
+    (1 ≤ l.version) × (l.version ≤ suc l.version-end)
+    × (l.best ≡ next_to (guarded (g.C.Catalogue.meaning l.trial.catalogue.now)) l.trial.sheet.now l.left l.trial.versions (l.version - 1))
