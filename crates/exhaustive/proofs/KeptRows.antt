@@ -13,9 +13,6 @@ one_fails test (suc n) k h e =
       | inr l ↦ and_right (all_first test n) (test n) (let same : k ≡ n = omega arith in subst (λ x. test x ≡ false) same e)
     ]
 
-pub one_more : (test : ℕ → Bool) (k : ℕ) → all_first test k ≡ true → test k ≡ true → all_first test (k + 1) ≡ true
-one_more test k h e = rw add-one (and_from (all_first test k) (test k) h e)
-
 pub all_same : (test other : ℕ → Bool) (n : ℕ) → ((k : ℕ) → test k ≡ other k) → all_first test n ≡ all_first other n
 all_same test other zero h = refl
 all_same test other (suc n) h = ap₂ ◌&&◌ (all_same test other n h) (h n)

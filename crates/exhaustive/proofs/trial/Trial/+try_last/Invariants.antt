@@ -1,7 +1,7 @@
 use Rattle.std.proofs.Common.{◌≡◌, suc, ◌-◌, ◌≤◌}
 use Rattle.exhaustive.specs.Trials.{guarded}
 use Rattle.exhaustive.proofs.Versions.{next_to}
-use Rattle.exhaustive.proofs.trials.+try_last.Given as goal
+use Rattle.exhaustive.proofs.trial.Trial.+try_last.Given as goal
 
 abbrev pub decreases-try_last : goal.decreases-try_last
 decreases-try_last g l = l.left
@@ -9,4 +9,4 @@ decreases-try_last g l = l.left
 abbrev pub invariant-loop-version : goal.invariant-loop-version
 invariant-loop-version g l =
     (1 ≤ l.version) × (l.version ≤ suc l.version-end)
-    × (l.best ≡ next_to (guarded (g.C.Catalogue.meaning l.trial.catalogue.now)) l.trial.sheet.now l.left l.trial.versions (l.version - 1))
+    × (l.best ≡ next_to (guarded (g.C.Catalogue.meaning l.self.catalogue.now)) l.self.sheet.now l.left l.self.versions (l.version - 1))
