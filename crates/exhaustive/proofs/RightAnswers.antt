@@ -1,11 +1,10 @@
 -- What is answered is right, by place. Assumes nothing.
-use Rattle.std.proofs.Common.{◌≡◌, ℕ, zero, suc, ◌-◌, ◌<◌, ◌≤◌, Bool, true, false, not, ◌⊎◌, List, length, get_or, replicate, ℤ, ◌≤ℤ◌, ◌<ℤ◌, is_some, Some, None, Ok, Err, Option, Result, sym, refl, ap, ◌∙◌, subst, inl, inr, arith, length-take}
+use Rattle.std.proofs.Common.{◌≡◌, ℕ, zero, suc, ◌-◌, ◌<◌, ◌≤◌, true, false, not, ◌⊎◌, List, length, get_or, replicate, ℤ, ◌≤ℤ◌, ◌<ℤ◌, is_some, Some, None, Ok, Option, Result, sym, refl, ap, ◌∙◌, subst, inl, inr, arith, length-take}
 use lib.ListN.{length-replicate}
 use Rattle.std.proofs.lemmas.List.{get_or-take, get_or_past, ext_get_or}
 use Rattle.std.proofs.lemmas.Int.{ints}
-use Rattle.std.proofs.lemmas.Bool.{cond_both, cond-true, cond-false, and_parts, and_from, not-true, eqb-true, eq-eqb, cases_lt}
+use Rattle.std.proofs.lemmas.Bool.{cond_both, and_parts, and_from, not-true, eqb-true, eq-eqb, cases_lt}
 use Rattle.rules.specs.declared.refusals.Refusal.{Refusal}
-use Rattle.rules.specs.declared.refusals.Refusal.TheVariants.{CountsDiffer, UnknownKind}
 use Rattle.rules.specs.declared.sheets.Sheet.{Sheet}
 use Rattle.rules.specs.Bounds.{most_places}
 use Rattle.rules.specs.Joinings.{kind_numbered}

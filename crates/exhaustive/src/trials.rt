@@ -12,6 +12,7 @@ use rules::{Refusal, Sheet};
 fn cheaper(first: Option<Found>, second: Option<Found>) -> Option<Found>
     ensures { result ≡ cheaper_of first second }
 {
+    // `min_by_key` over both would hide which of two equals stays.
     match (first, second) {
         (Some(first), Some(second)) if second.price < first.price => Some(second),
         _ => first.or(second),
