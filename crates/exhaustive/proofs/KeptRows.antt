@@ -1,5 +1,5 @@
 -- Rows tested one after the other. Assumes nothing.
-use Rattle.std.proofs.Common.{◌≡◌, ℕ, zero, suc, ◌+◌, ◌<◌, Bool, true, false, ◌&&◌, refl, subst, ap₂, inl, inr, add-one, arith}
+use Rattle.std.proofs.Common.{◌≡◌, ℕ, zero, suc, ◌<◌, Bool, true, false, ◌&&◌, refl, subst, ap₂, inl, inr, arith}
 use Rattle.std.proofs.lemmas.Bool.{and_from, and_left, and_right, cases_lt}
 use Rattle.rules.proofs.Bools.{split, clash}
 use Rattle.exhaustive.specs.Trials.{all_first}
@@ -12,9 +12,6 @@ one_fails test (suc n) k h e =
       | inl l ↦ and_left (all_first test n) (test n) (one_fails test n k l e)
       | inr l ↦ and_right (all_first test n) (test n) (let same : k ≡ n = omega arith in subst (λ x. test x ≡ false) same e)
     ]
-
-pub one_more : (test : ℕ → Bool) (k : ℕ) → all_first test k ≡ true → test k ≡ true → all_first test (k + 1) ≡ true
-one_more test k h e = rw add-one (and_from (all_first test k) (test k) h e)
 
 pub all_same : (test other : ℕ → Bool) (n : ℕ) → ((k : ℕ) → test k ≡ other k) → all_first test n ≡ all_first other n
 all_same test other zero h = refl

@@ -3,3 +3,4 @@ pub mod KeptRows
 pub mod Versions
 pub mod FirstCheapest
 pub mod RightAnswers
+pub mod Counted

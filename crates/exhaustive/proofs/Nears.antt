@@ -1,14 +1,15 @@
 -- Amounts joined over a few places stay within 64 bits. Assumes nothing.
-use Rattle.std.proofs.Common.{◌≡◌, ℕ, zero, suc, ◌+◌, ◌*◌, ◌<◌, ◌≤◌, ltb, leb, ℤ, pos, nat_abs, suc-mul, add-one, arith}
+use Rattle.std.proofs.Common.{◌≡◌, ℕ, zero, suc, ◌-◌, ◌*◌, ◌≤◌, ltb, leb, List, ℤ, pos, nat_abs, ap, ◌∙◌, suc-mul, arith}
 use Rattle.std.proofs.lemmas.Bool.{cond_both, and_parts, leb-true, ltb-true}
 use Rattle.rules.specs.Bounds.{amount_reach, most_places}
 use Rattle.rules.specs.Joinings.{Joining, Laws, joined_over}
 use Rattle.rules.specs.Catalogues.{Meaning, SoundMeaning, has_place, has_amount}
+use Rattle.rules.specs.Choices.{version}
 use Rattle.rules.specs.Settings.{amount_in}
 use Rattle.joining.specs.Held.{held}
 use Rattle.joining.proofs.Held.{held_near}
 
-pub amount_near : (m : Meaning) → SoundMeaning m → (row q v : ℕ) → nat_abs (amount_in m row q v) ≤ amount_reach
+amount_near : (m : Meaning) → SoundMeaning m → (row q v : ℕ) → nat_abs (amount_in m row q v) ≤ amount_reach
 amount_near m w row q v =
     cond_both (has_amount m row q v) (m.amount row q v) (pos 0) (λ z. nat_abs z ≤ amount_reach)
     (λ e.
@@ -19,13 +20,22 @@ amount_near m w row q v =
     w.near row q v (ltb-true _ _ a.0) (leb-true _ _ c.0) (leb-true _ _ c.1) (leb-true _ _ d.0) (leb-true _ _ d.1))
     (λ e. omega arith)
 
-module _ (J : Joining) (laws : Laws J) (f : ℕ → ℤ) (near : (q : ℕ) → nat_abs (f q) ≤ amount_reach) where
+-- the amounts of a choice in a row, by place
+abbrev pub amounts : Meaning → ℕ → List ℕ → ℕ → ℤ
+amounts m row c q = amount_in m row q (version c q)
+
+module _ (m : Meaning) (w : SoundMeaning m) (J : Joining) (laws : Laws J) (row : ℕ) (c : List ℕ) where
+  abbrev f : ℕ → ℤ
+  f = amounts m row c
+
   joined_near : (q : ℕ) → nat_abs (joined_over J f q) ≤ suc q * amount_reach
   joined_near zero = omega (arith, laws.unit_near)
   joined_near (suc q) =
-      omega (arith, laws.near (joined_over J f q) (f (suc q)), joined_near q, near (suc q), suc-mul (suc q) amount_reach)
+      omega (arith, laws.near (joined_over J f q) (f (suc q)), joined_near q, amount_near m w row (suc q) (version c (suc q)), suc-mul (suc q) amount_reach)
 
   -- one place more
-  pub joined_more : (q : ℕ) → q < most_places → held (J.join (joined_over J f q) (f (q + 1))) ≡ joined_over J f (q + 1)
-  joined_more q h =
-      rw add-one (held_near (joined_over J f (suc q)) (omega (arith, joined_near (suc q), suc-mul (suc q) amount_reach)))
+  pub joined_more : (q : ℕ) → 1 ≤ q → q ≤ most_places → held (J.join (joined_over J f (q - 1)) (f q)) ≡ joined_over J f q
+  joined_more zero l h = absurd (omega arith)
+  joined_more (suc q) l h =
+      let at : suc q - 1 ≡ q = omega arith in
+      ap (λ x. held (J.join (joined_over J f x) (f (suc q)))) at ∙ held_near (joined_over J f (suc q)) (omega (arith, joined_near (suc q), suc-mul (suc q) amount_reach))

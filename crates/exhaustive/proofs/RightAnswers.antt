@@ -1,11 +1,10 @@
 -- What is answered is right, by place. Assumes nothing.
-use Rattle.std.proofs.Common.{◌≡◌, ℕ, zero, suc, ◌-◌, ◌<◌, ◌≤◌, Bool, true, false, not, ◌⊎◌, List, length, get_or, replicate, ℤ, ◌≤ℤ◌, ◌<ℤ◌, is_some, Some, None, Ok, Err, Option, Result, sym, refl, ap, ◌∙◌, subst, inl, inr, arith, length-take}
+use Rattle.std.proofs.Common.{◌≡◌, ℕ, zero, suc, ◌-◌, ◌<◌, ◌≤◌, true, false, not, ◌⊎◌, List, length, get_or, replicate, ℤ, ◌≤ℤ◌, ◌<ℤ◌, is_some, Some, None, Ok, Option, Result, sym, refl, ap, ◌∙◌, subst, inl, inr, arith, length-take}
 use lib.ListN.{length-replicate}
 use Rattle.std.proofs.lemmas.List.{get_or-take, get_or_past, ext_get_or}
 use Rattle.std.proofs.lemmas.Int.{ints}
-use Rattle.std.proofs.lemmas.Bool.{cond_both, cond-true, cond-false, and_parts, and_from, eqb-true, eq-eqb, cases_lt}
+use Rattle.std.proofs.lemmas.Bool.{cond_both, and_parts, and_from, not-true, eqb-true, eq-eqb, cases_lt}
 use Rattle.rules.specs.declared.refusals.Refusal.{Refusal}
-use Rattle.rules.specs.declared.refusals.Refusal.TheVariants.{CountsDiffer, UnknownKind}
 use Rattle.rules.specs.declared.sheets.Sheet.{Sheet}
 use Rattle.rules.specs.Bounds.{most_places}
 use Rattle.rules.specs.Joinings.{kind_numbered}
@@ -17,13 +16,9 @@ use Rattle.rules.proofs.Inside.{versions_inside, amount_inside, joined_same}
 use Rattle.rules.proofs.KindNumbers.{kind_there, there_kind}
 use Rattle.exhaustive.specs.declared.found.Found.{Found}
 use Rattle.exhaustive.specs.Answers.{SameCounts, KnownKinds, Before, named, FirstCheapest, RightAnswer}
-use Rattle.exhaustive.specs.Trials.{guarded, row_kept, all_kept, tested, counts_same, kind_known, kinds_known, tried, all_tried, answer}
+use Rattle.exhaustive.specs.Trials.{guarded, row_kept, all_kept, counts_same, kind_known, kinds_known, tried, all_tried, answer}
 use Rattle.exhaustive.proofs.KeptRows.{all_at, all_from}
 use Rattle.exhaustive.proofs.FirstCheapest.{SameTo, GoingOn, NoLater, FirstOf, FoundOf, kept_same, total_same, tried_found}
-
-not_true : (b : Bool) → not b ≡ true → b ≡ false
-not_true true h = sym h
-not_true false h = refl
 
 module _ (m : Meaning) (w : SoundMeaning m) (s : Sheet) (same : SameCounts m s) where
   abbrev G : Meaning
@@ -53,7 +48,7 @@ module _ (m : Meaning) (w : SoundMeaning m) (s : Sheet) (same : SameCounts m s) 
 
   keeps_of : (d : List ℕ) → Choice m s d → all_kept G s d ≡ true → Keeps m s (limit_of s) d
   keeps_of d h k row r =
-      subst (λ x. (joining_of s row).worse x (limit_of s row) ≡ false) (total_inside d h row r) (not_true _ (all_at (row_kept G s d) (suc (last_row s)) row k (omega arith)))
+      subst (λ x. (joining_of s row).worse x (limit_of s row) ≡ false) (total_inside d h row r) (not-true _ (all_at (row_kept G s d) (suc (last_row s)) row k (omega arith)))
 
   module _ (f : Found) (x : FirstOf G s (GoingOn G s 0 none_set) f) where
     abbrev c : List ℕ
@@ -158,33 +153,3 @@ right_answer m w s =
 
 pub right_where : (m : Meaning) → SoundMeaning m → (s : Sheet) (r : Result (Option Found) Refusal) → r ≡ answer m s → RightAnswer m s r
 right_where m w s r e = subst (RightAnswer m s) (sym e) (right_answer m w s)
-
--- a test taken apart
-module _ (b : Bool) (e : Refusal) where
-  refused_at : (x : Refusal) → Err x ≡ tested b e → (b ≡ false) × (x ≡ e)
-  refused_at x h = by b h
-    where
-      by : (b : Bool) → Err x ≡ tested b e → (b ≡ false) × (x ≡ e)
-      by true h = let z : ◌≡◌ {A = ℕ} 0 1 = cc in absurd (omega arith)
-      by false h = (refl, cc)
-
-  passed_at : Ok tt ≡ tested b e → b ≡ true
-  passed_at h = by b h
-    where
-      by : (b : Bool) → Ok tt ≡ tested b e → b ≡ true
-      by true h = refl
-      by false h = let z : ◌≡◌ {A = ℕ} 0 1 = cc in absurd (omega arith)
-
--- what is answered where the first test refuses, where the second does, and where both pass
-module _ (m : Meaning) (s : Sheet) where
-  pub counts_refused : (x : Refusal) → Err x ≡ tested (counts_same m s) CountsDiffer → Err x ≡ answer m s
-  counts_refused x h = let r = refused_at (counts_same m s) CountsDiffer x h in ap Err r.1 ∙ sym (cond-false (counts_same m s) _ _ r.0)
-
-  pub kind_refused : (x : Refusal) → Ok tt ≡ tested (counts_same m s) CountsDiffer → Err x ≡ tested (kinds_known s) UnknownKind → Err x ≡ answer m s
-  kind_refused x c h =
-      let r = refused_at (kinds_known s) UnknownKind x h in
-      ap Err r.1 ∙ sym (cond-true (counts_same m s) _ _ (passed_at (counts_same m s) CountsDiffer c) ∙ cond-false (kinds_known s) _ _ r.0)
-
-  pub both_passed : Ok tt ≡ tested (counts_same m s) CountsDiffer → Ok tt ≡ tested (kinds_known s) UnknownKind → Ok (all_tried m s) ≡ answer m s
-  both_passed c h =
-      sym (cond-true (counts_same m s) _ _ (passed_at (counts_same m s) CountsDiffer c) ∙ cond-true (kinds_known s) _ _ (passed_at (kinds_known s) UnknownKind h))

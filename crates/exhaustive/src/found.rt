@@ -2,7 +2,8 @@
 use rules::MOST_PLACES;
 
 // A choice that keeps the limits: the versions by place, and their price. Past the last place the table has 0.
-#[derive(Clone, Copy)]
+// It is copied as trials go on, so its table is of fixed size.
+#[derive(Clone, Copy, Debug, PartialEq, Eq)]
 pub struct Found {
     pub versions: [u8; MOST_PLACES],
     pub price: i64,

@@ -2,7 +2,7 @@
 #![tactic(auto)]
 
 mod found;
-mod totals;
+mod trial;
 mod trials;
 
 pub use found::Found;
