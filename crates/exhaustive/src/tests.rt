@@ -1,7 +1,6 @@
 use super::*;
 use catalogue::{Ladder, Rung};
 use rules::{GREATEST_ROW, Kind, MOST_PLACES, MOST_ROWS, Refusal, Row, Sheet};
-use std::process::Abort;
 use std::test::Fail;
 
 // A sheet for so many places, with a price cap and one row more that takes the greatest.
@@ -20,14 +19,12 @@ fn sheet(places: u8, cap: i32, limit: i32) -> Sheet {
 }
 
 // Two places of three versions each: the price falls by a step, and the other row rises from -7.
-fn two_places(rt: &impl Abort, step: i32) -> Result<Ladder, Fail> {
-    let Some(mut made) = Ladder::new(2) else {
-        return Err(Fail::new("no ladder has two rows"));
-    };
+fn two_places(step: i32) -> Result<Ladder, Fail> {
+    let mut made = Ladder::new(2)?;
     let mut rungs = [Rung { base: 10, step }; MOST_ROWS];
     rungs[1] = Rung { base: -7, step: 2 };
-    assert!(rt; made.add(3, rungs));
-    assert!(rt; made.add(3, rungs));
+    made.add(3, rungs)?;
+    made.add(3, rungs)?;
     Ok(made)
 }
 
@@ -46,9 +43,9 @@ fn told(answer: Result<Option<Found>, Refusal>) -> Result<(i64, u8, u8, u8), Fai
 
 #[test]
 fn cheapest_and_first(rt: HostRuntime) -> Result<(), Fail> {
-    let level = two_places(&rt, 0)?;
+    let level = two_places(0)?;
     assert_eq!(rt; told(cheapest(&sheet(2, 20, -3), &level))?, (20, 1, 1, 0));
-    let falling = two_places(&rt, -4)?;
+    let falling = two_places(-4)?;
     assert_eq!(rt; told(cheapest(&sheet(2, 20, -3), &falling))?, (4, 3, 3, 0));
     assert_eq!(rt; told(cheapest(&sheet(2, 20, -4), &falling))?, (12, 2, 2, 0));
     assert_eq!(rt; told(cheapest(&sheet(2, 20, -7), &falling))?, (20, 1, 1, 0));
@@ -57,7 +54,7 @@ fn cheapest_and_first(rt: HostRuntime) -> Result<(), Fail> {
 
 #[test]
 fn none_and_refused(rt: HostRuntime) -> Result<(), Fail> {
-    let falling = two_places(&rt, -4)?;
+    let falling = two_places(-4)?;
     let Ok(None) = cheapest(&sheet(2, 3, -3), &falling) else {
         return Err(Fail::new("the cap is under every price"));
     };

@@ -7,4 +7,4 @@ pub returns-clause-right : goal.returns-clause-right
 returns-clause-right g c =
     let m = g.C.Catalogue.meaning c.args.catalogue.now in
     let is : Ok c.try_last.result ≡ answer m c.args.sheet.now = search rules in
-    right_where m (g.C.Catalogue.sound c.args.catalogue.now) _ _ is
+    right_where m (g.met.C.Catalogue.sound c.args.catalogue.now) _ _ is
