@@ -143,6 +143,7 @@ impl Listing {
         if !self.fits(place.behind(self.rows, place.count)) {
             return Err(Refusal::FieldCut);
         }
+        // By index: with a `&mut` to the last place from the start, what each refusal leaves behind stays open.
         self.places[last].count += 1;
         Ok(())
     }
