@@ -1,16 +1,18 @@
--- How far the fields of a place of a listing reach, and what holds of each place once one is set. Assumes nothing.
-use Rattle.std.proofs.Common.{◌≡◌, ℕ, ◌+◌, ◌-◌, ◌<◌, ◌≤◌, List, All, slice_set, length, length-set, ap, sym, subst, ◌∙◌, add-mul, mul-le-mul, arith}
+-- How far the fields of a place of a listing reach, and what holds of each place once one has a version more. Assumes nothing.
+use Rattle.std.proofs.Common.{◌≡◌, ℕ, ◌+◌, ◌-◌, ◌<◌, ◌≤◌, List, All, slice_index_or, slice_set, length, length-set, ap, sym, subst, ◌∙◌, add-mul, mul-le-mul, arith}
 use Rattle.std.proofs.lemmas.List.Elements.{All-set}
 use Rattle.arrayvec.specs.ArrayVec.{ArrayVec, with_items}
 use Rattle.arrayvec.proofs.ArrayVecLemmas.{items-with_items}
-use Rattle.catalogue.specs.Listed.{amount_start, behind, next_start, version_width}
+use Rattle.catalogue.specs.Listed.{amount_start, behind, grown, next_start, no_listed, version_width}
 use Rattle.catalogue.specs.declared.listed.ListedPlace.{ListedPlace}
 
--- What holds of each item holds of each item once one is written of which it holds too.
-pub All-written : {T : Type 0} (P : T → Type 0) (v : ArrayVec T) (xs : List T) (i : ℕ) (x : T) → xs ≡ v.items → P x → All P v.items → All P (with_items v (slice_set xs i x)).items
-All-written P v xs i x same new each =
-    let is = items-with_items v (slice_set xs i x) (length-set _ _ _ ∙ ap (λ ys. length ys) same) ∙ ap (λ ys. slice_set ys i x) same in
-    subst (All P) (sym is) (All-set P v.items i x new each)
+-- What holds of each place, and of one with a version more, holds of each once that one is written.
+pub All-grown : (P : ListedPlace → Type 0) (v : ArrayVec ListedPlace) (xs ys : List ListedPlace) (i : ℕ) → xs ≡ v.items → ys ≡ v.items → P (grown (slice_index_or ys i no_listed)) → All P v.items → All P (with_items v (slice_set xs i (grown (slice_index_or xs i no_listed)))).items
+All-grown P v xs ys i same also new each =
+    let x = grown (slice_index_or xs i no_listed) in
+    let here = subst (λ zs. P (grown (slice_index_or zs i no_listed))) (also ∙ sym same) new in
+    let is = items-with_items v (slice_set xs i x) (length-set _ _ _ ∙ ap (λ zs. length zs) same) ∙ ap (λ zs. slice_set zs i x) same in
+    subst (All P) (sym is) (All-set P v.items i x here each)
 
 -- One version more takes the width of one field.
 pub behind_more : (rows : ℕ) (p : ListedPlace) (k : ℕ) → behind rows p (k + 1) ≡ behind rows p k + version_width rows

@@ -64,7 +64,8 @@ last_fits end rows places = nat_le 1 (length places) && version_fits end rows (l
 -- What adding a version answers: one before the first place comes out of turn.
 abbrev pub version_told : ℕ → ℕ → List ListedPlace → Result (Unit {0}) Refusal
 version_told end rows places =
-    done_if (last_fits end rows places) (if nat_le 1 (length places) then (if nat_lt (last_listed places).count most_versions then FieldCut else VersionsOutside) else PlaceOutOfTurn)
+    done_if (last_fits end rows places)
+    (if nat_le 1 (length places) then (if nat_lt (last_listed places).count most_versions then FieldCut else VersionsOutside) else PlaceOutOfTurn)
 
 -- The places with one more behind them, which has one version.
 abbrev pub with_first_version : List ListedPlace → ℕ → List ListedPlace

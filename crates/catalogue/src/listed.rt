@@ -30,10 +30,11 @@ struct ListedPlace {
 // Where the version fields of each place lie, made place by place and version by version.
 #[derive(Drop)]
 pub struct Listing {
-    // No field passes this byte, which an index reaches.
+    // No field passes this byte.
     end: usize,
     rows: u8,
     places: ArrayVec<ListedPlace, MOST_PLACES>,
+    // In the logic a number behind a reference is any whole number unless a fact says otherwise.
     ghost index: { end < 2 ^ 64 },
     ghost counted: { Counted rows (array_vec_len places) },
     ghost each: { All (λ p. Versions p.count) places.items },
@@ -142,6 +143,7 @@ impl Listing {
         if !self.fits(place.behind(self.rows, place.count)) {
             return Err(Refusal::FieldCut);
         }
+        // By index: with a `&mut` to the last place from the start, what each refusal leaves behind stays open.
         self.places[last].count += 1;
         Ok(())
     }
@@ -176,6 +178,7 @@ impl<'a> Listed<'a> {
         ensures bytes { result.bytes.now ≡ bytes.now }
         ensures listing { result.listing ≡ listing }
     {
+        // What has been read is known to be bytes.
         let _first = bytes.first();
         Listed { bytes, listing }
     }

@@ -1,4 +1,5 @@
-// What the catalogues made place by place have in common.
+// What the catalogues made place by place have in common. A generic table of rows and places for both would need a trait of
+// places, and is no plainer.
 ghost use Rattle.std.specs.Prelude.{◌≡◌, ◌-◌, ◌<◌, ◌≤◌, length, MatchOption};
 ghost use Rattle.std.specs.List.{HoldsAt};
 ghost use Rattle.rules.specs.declared.refusals.Refusal.TheVariants.{CountOutside};

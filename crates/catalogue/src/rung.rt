@@ -11,7 +11,7 @@ pub struct Rung {
     ghost near: { (unsigned_abs base ≤ 2 ^ 31) × (unsigned_abs step ≤ 2 ^ 31) },
 }
 
-// By hand, as each field is 0: a derive doesn't reach a struct with a ghost field.
+// A rung at 0; by hand, since no derive reaches a struct with a ghost field.
 impl Default for Rung {
     ghost is_default = { λ rung. (rung.base ≡ pos 0) × (rung.step ≡ pos 0) };
 
