@@ -1,9 +1,9 @@
 -- What is found when every choice is tried is the first of the cheapest. Assumes nothing.
-use Rattle.std.proofs.Common.{◌≡◌, ℕ, zero, suc, ◌-◌, ◌<◌, ◌≤◌, true, false, not, ◌⊎◌, List, length, get_or, set, ℤ, ◌≤ℤ◌, ◌<ℤ◌, Some, None, Option, sym, refl, ap, ◌∙◌, subst, inl, inr, arith, length-set}
-use lib.Signed.{lt_z}
+use Rattle.std.proofs.Common.{◌≡◌, ℕ, zero, suc, ◌-◌, ◌<◌, ◌≤◌, true, not, ◌⊎◌, List, length, get_or, set, ◌≤ℤ◌, ◌<ℤ◌, Some, None, Option, sym, refl, ap, ◌∙◌, subst, inl, inr, arith, length-set}
+use Rattle.std.specs.Prelude.{int_lt}
 use Rattle.std.proofs.lemmas.List.{get_or-set_same, get_or-set_other}
 use Rattle.std.proofs.lemmas.Int.{ints, by_lt_z}
-use Rattle.std.proofs.lemmas.Bool.{cond-true, cond-false, cond_both, cases_lt}
+use Rattle.std.proofs.lemmas.Bool.{cond_both, cases_lt}
 use Rattle.rules.specs.declared.sheets.Sheet.{Sheet}
 use Rattle.rules.specs.Bounds.{most_places}
 use Rattle.rules.specs.Catalogues.{Meaning}
@@ -61,10 +61,6 @@ module _ (m : Meaning) (s : Sheet) where
     abbrev Either : List ℕ → Type 0
     Either d = P d ⊎ Q d
 
-    cheaper_still : (a b c : ℤ) → a <ℤ b → (b <ℤ c) ⊎ (b ≡ c) → a <ℤ c
-    cheaper_still a b c h (inl k) = omega (arith, ints)
-    cheaper_still a b c h (inr k) = omega (arith, ints)
-
     price_of : (f : Found) (d : List ℕ) → NoLater f d → (f.price <ℤ price m s d) ⊎ (f.price ≡ price m s d)
     price_of f d (inl h) = inl h
     price_of f d (inr h) = inr h.0
@@ -77,7 +73,7 @@ module _ (m : Meaning) (s : Sheet) where
           costs = y.costs;
           long = y.long;
           first = λ d e k. elim e [
-            | inl p ↦ inl (cheaper_still g.price f.price (price m s d) h (price_of f d (x.first d p k)))
+            | inl p ↦ elim (price_of f d (x.first d p k)) [ inl lt ↦ inl (omega (arith, ints)) | inr eq ↦ inl (omega (arith, ints)) ]
             | inr q ↦ y.first d q k
           ];
         }
@@ -85,10 +81,7 @@ module _ (m : Meaning) (s : Sheet) where
     not_cheaper : (f g : Found) (d : List ℕ) → f.price ≤ℤ g.price → (g.price <ℤ price m s d) ⊎ (g.price ≡ price m s d) → Before f.versions d → NoLater f d
     not_cheaper f g d h (inl k) b = inl (omega (arith, ints))
     not_cheaper f g d h (inr k) b =
-        by_lt_z f.price g.price (λ lt. inl (subst (λ x. f.price <ℤ x) k lt)) (λ le. inr (same f.price g.price (price m s d) h le k, inr b))
-      where
-        same : (a b c : ℤ) → a ≤ℤ b → b ≤ℤ a → b ≡ c → a ≡ c
-        same a b c h k e = omega (arith, ints)
+        by_lt_z f.price g.price (λ lt. inl (omega (arith, ints))) (λ le. inr (omega (arith, ints), inr b))
 
     first_stays : (f g : Found) → FirstOf P f → FirstOf Q g → f.price ≤ℤ g.price → FirstOf Either f
     first_stays f g x y h =
@@ -110,15 +103,9 @@ module _ (m : Meaning) (s : Sheet) where
     cheaper_found (Some f) None x y =
         record { one = inl x.one; keeps = x.keeps; costs = x.costs; long = x.long; first = λ d e k. elim e [ inl p ↦ x.first d p k | inr q ↦ absurd (y d q k) ] }
     cheaper_found (Some f) (Some g) x y =
-        by_lt_z g.price f.price
-        (λ lt. subst (FoundOf Either) (sym (cond-true _ _ _ (less lt))) (second_cheaper f g x y lt))
-        (λ le. subst (FoundOf Either) (sym (cond-false _ _ _ (not_less le))) (first_stays f g x y le))
-      where
-        less : {a b : ℤ} → a <ℤ b → lt_z a b ≡ true
-        less {a} {b} h = grind (arith, ints)
-
-        not_less : {a b : ℤ} → b ≤ℤ a → lt_z a b ≡ false
-        not_less {a} {b} h = grind (arith, ints)
+        cond_both (int_lt g.price f.price) (Some g) (Some f) (FoundOf Either)
+        (λ e. second_cheaper f g x y (grind (arith, ints)))
+        (λ e. first_stays f g x y (grind (arith, ints)))
 
   -- one choice, judged
   judged_found : (c : List ℕ) → length c ≡ most_places → FoundOf (GoingOn s.places c) (judged m s c)

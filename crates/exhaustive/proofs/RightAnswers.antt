@@ -1,5 +1,5 @@
 -- What is answered is right, by place. Assumes nothing.
-use Rattle.std.proofs.Common.{◌≡◌, ℕ, zero, suc, ◌-◌, ◌<◌, ◌≤◌, true, false, not, ◌⊎◌, List, length, get_or, replicate, ℤ, ◌≤ℤ◌, ◌<ℤ◌, is_some, Some, None, Ok, Option, Result, sym, refl, ap, ◌∙◌, subst, inl, inr, arith, length-take}
+use Rattle.std.proofs.Common.{◌≡◌, ℕ, zero, suc, ◌-◌, ◌<◌, ◌≤◌, true, false, not, ◌⊎◌, List, length, get_or, replicate, ◌≤ℤ◌, is_some, Some, None, Ok, Option, Result, sym, refl, ap, ◌∙◌, subst, inl, inr, arith, length-take}
 use lib.ListN.{length-replicate}
 use Rattle.std.proofs.lemmas.List.{get_or-take, get_or_past, ext_get_or}
 use Rattle.std.proofs.lemmas.Int.{ints}
@@ -75,14 +75,8 @@ module _ (m : Meaning) (w : SoundMeaning m) (s : Sheet) (same : SameCounts m s) 
     not_later d h k = x.first d (going_on d h) (kept_of d h k)
 
     lowest : (d : List ℕ) → Choice m s d → NoLater G s f d → price m s c ≤ℤ price m s d
-    lowest d h (inl lt) = below f.price (price G s d) (price m s c) (price m s d) lt costs (total_inside d h 0 (omega arith))
-      where
-        below : (a b c d : ℤ) → a <ℤ b → a ≡ c → b ≡ d → c ≤ℤ d
-        below a b c d h e k = omega (arith, ints)
-    lowest d h (inr eq) = alike f.price (price G s d) (price m s c) (price m s d) eq.0 costs (total_inside d h 0 (omega arith))
-      where
-        alike : (a b c d : ℤ) → a ≡ b → a ≡ c → b ≡ d → c ≤ℤ d
-        alike a b c d h e k = omega (arith, ints)
+    lowest d h (inl lt) = omega (arith, ints, costs, total_inside d h 0 (omega arith))
+    lowest d h (inr eq) = omega (arith, ints, eq.0, costs, total_inside d h 0 (omega arith))
 
     -- a choice with the versions that were found is the one named
     same_choice : (d : List ℕ) → Choice m s d → SameTo G s s.places d f.versions → d ≡ c
@@ -107,10 +101,7 @@ module _ (m : Meaning) (w : SoundMeaning m) (s : Sheet) (same : SameCounts m s) 
         }
 
     first : (d : List ℕ) → Choice m s d → price m s d ≡ f.price → NoLater G s f d → (d ≡ c) ⊎ Before c d
-    first d h e (inl lt) = absurd (not_less f.price (price G s d) (price m s d) lt (total_inside d h 0 (omega arith)) e)
-      where
-        not_less : (a b c : ℤ) → a <ℤ b → b ≡ c → c ≡ a → ⊥
-        not_less a b c h e k = omega (arith, ints)
+    first d h e (inl lt) = absurd (omega (arith, ints, total_inside d h 0 (omega arith)))
     first d h e (inr eq) = elim eq.1 [ inl alike ↦ inl (same_choice d h alike) | inr b ↦ inr (before_choice d h b) ]
 
     first_cheapest : FirstCheapest m s f
