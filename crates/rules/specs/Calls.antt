@@ -141,9 +141,9 @@ module _ (S : Setting) where
   reply (closed L gs v) (change row limit) =
       if nat_le row S.last_row
       then
-        (if nat_le (unsigned_abs limit) greatest_limit
-        then replied taken (closed (changed L row limit) gs None)
-        else replied (refused LimitBeyond) (closed L gs v))
+      (if nat_le (unsigned_abs limit) greatest_limit
+      then replied taken (closed (changed L row limit) gs None)
+      else replied (refused LimitBeyond) (closed L gs v))
       else replied (refused NoSuchRow) (closed L gs v)
   reply (closed L gs v) clear = replied taken (closed L [] None)
   reply (closed L gs v) begin_search = replied taken (running L (start S L gs))

@@ -123,7 +123,7 @@ module _ (S : Setting) where
   -- One line more in a ground.
   abbrev pub with_line : Line → Ground → Ground
   with_line a [] = a ∷ []
-  with_line a (b ∷ g) = 
+  with_line a (b ∷ g) =
       if before a b then a ∷ b ∷ g
       else if same_place a b then kept a b ∷ g
       else b ∷ with_line a g

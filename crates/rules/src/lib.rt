@@ -6,6 +6,7 @@ mod bounds;
 mod kinds;
 mod laws;
 mod lines;
+mod numbers;
 mod records;
 mod refusals;
 mod sheets;
@@ -20,6 +21,7 @@ pub use laws::{
     refusal_law, step_law, worked_examples,
 };
 pub use lines::{ClosingLine, Line};
+pub use numbers::number_at;
 pub use records::{CallRecord, Request};
 pub use refusals::{Fault, Refusal};
 pub use sheets::{Row, Sheet};
