@@ -38,13 +38,13 @@ adjoin_upward [] from to h = omega (arith, eqb-true from to h)
 adjoin_upward (g ∷ gs) from to h = let first = first_adjoins g gs from to h in omega (arith, first.1, adjoin_upward gs g.end to first.2)
 
 -- each ground lies within the table
-pub adjoin_at : (gs : List GroundRecord) (from to k : ℕ) (d : GroundRecord) → adjoin gs from to ≡ true → k < length gs → ((get_or gs k d).start ≤ (get_or gs k d).end) × ((get_or gs k d).end ≤ to)
+adjoin_at : (gs : List GroundRecord) (from to k : ℕ) (d : GroundRecord) → adjoin gs from to ≡ true → k < length gs → ((get_or gs k d).start ≤ (get_or gs k d).end) × ((get_or gs k d).end ≤ to)
 adjoin_at [] from to k d h within = absurd (omega arith)
 adjoin_at (g ∷ gs) from to zero d h within = let first = first_adjoins g gs from to h in (omega (arith, first.0, first.1), adjoin_upward gs g.end to first.2)
 adjoin_at (g ∷ gs) from to (suc k) d h within = adjoin_at gs g.end to k d (first_adjoins g gs from to h).2 (omega arith)
 
 -- the grounds have the lines of the table
-pub adjoin_count : (ls : List Line) (gs : List GroundRecord) (from to : ℕ) → adjoin gs from to ≡ true → to ≤ length ls → line_count (grounds_of ls gs) + from ≡ to
+adjoin_count : (ls : List Line) (gs : List GroundRecord) (from to : ℕ) → adjoin gs from to ≡ true → to ≤ length ls → line_count (grounds_of ls gs) + from ≡ to
 adjoin_count ls [] from to h within = omega (arith, eqb-true from to h)
 adjoin_count ls (g ∷ gs) from to h within =
     let first = first_adjoins g gs from to h in
