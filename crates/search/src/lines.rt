@@ -21,7 +21,7 @@ pub(crate) fn starting_line<J: Joining>(row: u8) -> Line
     Line {
         row,
         level: 0,
-        constant: J::start(),
+        constant: J::UNIT,
     }
 }
 
