@@ -16,14 +16,13 @@ module _ (S : Setting) (f : Line → Line) (g : Ground) (i : ℕ) where
 
 -- what the versions give, one after the other, at a position
 module _ (S : Setting) (t : Part) (pick : ℕ → Ground) (p : ℕ) (at : open_places S t ≡ p) where
-  pub learned_more : (v : ℕ) (d e : Ground) → 1 ≤ v → d ≡ learned_up_to S t pick (v - 1) → e ≡ with_lines S (map (moved_at S p v) (pick v)) d → e ≡ learned_up_to S t pick (v + 1 - 1)
+  pub learned_more : (v : ℕ) (d e : Ground) → 1 ≤ v → d ≡ learned_up_to S t pick (v - 1) → e ≡ with_lines S (map (moved_at S p v) (pick v)) d → e ≡ learned_up_to S t pick v
   learned_more v d e some so_far put =
-      let on : v + 1 - 1 ≡ suc (v - 1) = omega arith in
       let back : suc (v - 1) ≡ v = omega arith in
       put
       ∙ ap (with_lines S (map (moved_at S p v) (pick v))) so_far
       ∙ ap (λ q. with_lines S (map (moved_at S q v) (pick v)) (learned_up_to S t pick (v - 1))) (sym at)
-      ∙ sym (ap (learned_up_to S t pick) on ∙ ap (λ x. with_lines S (map (moved S t x) (pick x)) (learned_up_to S t pick (v - 1))) back)
+      ∙ sym (ap (learned_up_to S t pick) (sym back) ∙ ap (λ x. with_lines S (map (moved S t x) (pick x)) (learned_up_to S t pick (v - 1))) back)
 
   pub learned_all : (k : ℕ) (d : Ground) → k ≡ S.versions p → d ≡ learned_up_to S t pick k → d ≡ learn_from S t pick
   unfolding learn_from

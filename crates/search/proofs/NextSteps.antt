@@ -5,7 +5,7 @@ use Rattle.rules.specs.Sheets.{Limits}
 use Rattle.rules.specs.Grounds.{Setting, Part, Ground, open_places}
 use Rattle.rules.specs.Search.{State, first_ground, ground_at, with_ground, with_best, room, lowest_free, try_place, go_on, after_ground, by_ground, next, ended, full, stepped}
 use Rattle.search.specs.Settings.{setting}
-use Rattle.search.specs.States.{chosen_from, job_limits, limits_of}
+use Rattle.search.specs.States.{chosen_from, job_limits, limits_of, SameJob}
 use Rattle.search.specs.declared.search.Search.{Search}
 
 module _ (S : Setting) (L : Limits) (σ : State) where
@@ -46,5 +46,5 @@ module _ (S : Setting) (L : Limits) (σ : State) where
           ∙ none_next
 
 -- what comes next rests on the grid and the limits
-pub next_kept : (s t : Search) (σ : State) → s.grid ≡ t.grid → s.limits ≡ t.limits → next (chosen_from s) (job_limits s) σ ≡ next (chosen_from t) (job_limits t) σ
-next_kept s t σ p q = ap (λ g. next (setting g) (job_limits s) σ) p ∙ ap (λ l. next (chosen_from t) (limits_of l) σ) q
+pub next_kept : (s t : Search) (σ : State) → SameJob s t → next (chosen_from s) (job_limits s) σ ≡ next (chosen_from t) (job_limits t) σ
+next_kept s t σ same = ap (λ g. next (setting g) (job_limits s) σ) same.0 ∙ ap (λ l. next (chosen_from t) (limits_of l) σ) same.1

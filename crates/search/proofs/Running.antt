@@ -7,7 +7,7 @@ use Rattle.rules.specs.Sheets.{Limits}
 use Rattle.rules.specs.Grounds.{Setting, Ground}
 use Rattle.rules.specs.Search.{State, Outcome, ended, full, stepped, next}
 use Rattle.rules.specs.Calls.{Why, has_ended, is_full, budget_used, why, Ran, one_more, run_from, run, running, refused, replied, run_reply, reply}
-use Rattle.search.specs.States.{chosen_from, job_limits, state_of}
+use Rattle.search.specs.States.{chosen_from, job_limits, state_of, SameJob}
 use Rattle.search.specs.Runs.{after_steps}
 use Rattle.search.specs.declared.search.Search.{Search}
 use Rattle.search.proofs.NextSteps.{next_kept}
@@ -68,12 +68,12 @@ module _ (S : Setting) (L : Limits) (σ : State) where
         ∙ ap (λ m. record { reason = rest.reason; made = m; state = rest.state }) on
 
 -- a search that began as s₀ and is s after k steps of a run
-module _ (s₀ s : Search) (n k : ℕ) (grid : s.grid ≡ s₀.grid) (limits : s.limits ≡ s₀.limits) (so_far : run_from (chosen_from s₀) (job_limits s₀) n (state_of s₀) ≡ after_steps k (run_from (chosen_from s₀) (job_limits s₀) (n - k) (state_of s))) where
+module _ (s₀ s : Search) (n k : ℕ) (same : SameJob s s₀) (so_far : run_from (chosen_from s₀) (job_limits s₀) n (state_of s₀) ≡ after_steps k (run_from (chosen_from s₀) (job_limits s₀) (n - k) (state_of s))) where
   abbrev all : Ran
   all = run_from (chosen_from s₀) (job_limits s₀) n (state_of s₀)
 
   kept : (o : Outcome) → o ≡ next (chosen_from s) (job_limits s) (state_of s) → o ≡ next (chosen_from s₀) (job_limits s₀) (state_of s)
-  kept o e = e ∙ next_kept s s₀ (state_of s) grid limits
+  kept o e = e ∙ next_kept s s₀ (state_of s) same
 
   pub run_ended : (g : Ground) → ended g ≡ next (chosen_from s) (job_limits s) (state_of s) → record { reason = has_ended; made = k; state = state_of s } ≡ all
   run_ended g e = ran_ended (chosen_from s₀) (job_limits s₀) (state_of s) all k n so_far g (kept _ e)

@@ -1,5 +1,5 @@
 -- A search of the rules in its tables. Assumes nothing.
-use Rattle.std.specs.Prelude.{ℕ, suc, ◌<◌, cond, List, [], ◌∷◌, ℤ, pos, Some, None, Option, ◌==◌, slice_index_or}
+use Rattle.std.specs.Prelude.{◌≡◌, ℕ, suc, ◌<◌, cond, List, [], ◌∷◌, ℤ, pos, Some, None, Option, ◌==◌, slice_index_or}
 use Rattle.rules.specs.declared.lines.Line.{Line}
 use Rattle.rules.specs.Sheets.{Limits}
 use Rattle.rules.specs.Choices.{capped}
@@ -72,3 +72,7 @@ moved_at S p v l =
 -- The first ground that stands with a version put on t, and no line where none does.
 abbrev pub pick_of : Search → Part → ℕ → Ground
 pick_of s t v = ground_in (first_standing (chosen_from s) (force s) (grounds s) (v ∷ t))
+
+-- Two searches choose from one grid, under the same limits.
+abbrev pub SameJob : Search → Search → Type 0
+SameJob s t = (s.grid ≡ t.grid) × (s.limits ≡ t.limits)

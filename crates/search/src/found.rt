@@ -3,7 +3,7 @@ use crate::closing::Closing;
 use crate::part::Part;
 
 // Why a run stopped.
-#[derive(Clone, Copy)]
+#[derive(Clone, Copy, Debug, PartialEq, Eq)]
 pub enum Why {
     HasEnded,
     IsFull,
@@ -11,7 +11,7 @@ pub enum Why {
 }
 
 // What a run came to: why it stopped, and the steps that it made.
-#[derive(Clone, Copy)]
+#[derive(Clone, Copy, Debug, PartialEq, Eq)]
 pub struct Ran {
     pub why: Why,
     pub made: u32,

@@ -20,9 +20,7 @@ impl Closing {
     {
         let mut lines = [NO_LINE; MOST_ROWS];
         let count = ground.len().min(MOST_ROWS);
-        for index in 0..count {
-            lines[index] = ground[index];
-        }
+        lines[..count].copy_from_slice(&ground[..count]);
         Closing { lines, count }
     }
 

@@ -1,18 +1,30 @@
 // What is done with one line, by the kind of its row: here a kind becomes its joining.
-ghost use Rattle.std.specs.Prelude.{◌≡◌, ◌+◌, ◌<◌, ◌≤◌, [], ◌∷◌, drop};
-ghost use Rattle.rules.specs.Bounds.{most_places, greatest_row};
+ghost use Rattle.std.specs.Prelude.{◌≡◌, ◌+◌, ◌≤◌, [], ◌∷◌, drop};
+ghost use Rattle.rules.specs.Bounds.{greatest_row};
 ghost use Rattle.rules.specs.Grounds.{joined_above, of_row, with_line};
 ghost use Rattle.ledger.specs.Drafted.{drafted};
 ghost use Rattle.ledger.specs.Lines.{Near};
 ghost use Rattle.search.specs.Parts.{versions_of};
 ghost use Rattle.search.specs.States.{chosen_from, force, moved_at};
 
-use crate::lines::{breaks, put_moved, starting_line};
+use crate::lines::LineIn;
 use crate::part::Part;
+use crate::pick::Pick;
 use crate::search::Search;
 use joining::{GreatestAtMost, SumAtLeast, SumAtMost};
 use ledger::Draft;
 use rules::{Kind, Line};
+
+// A call at the joining of a kind.
+macro_rules! at_joining {
+    ($kind:expr, $of:ident::$make:ident($($with:expr),*) $(.$then:ident($($and:expr),*))?) => {
+        match $kind {
+            Kind::SumAtMost => $of::<SumAtMost>::$make($($with),*)$(.$then($($and),*))?,
+            Kind::SumAtLeast => $of::<SumAtLeast>::$make($($with),*)$(.$then($($and),*))?,
+            Kind::GreatestAtMost => $of::<GreatestAtMost>::$make($($with),*)$(.$then($($and),*))?,
+        }
+    };
+}
 
 impl Search {
     // The limit of a row in force; the search has its own cap on the price.
@@ -33,11 +45,7 @@ impl Search {
         ensures is { result ∷ [] ≡ of_row (chosen_from self.now) row }
         ensures near { Near result }
     {
-        match self.grid.kind(row) {
-            Kind::SumAtMost => starting_line::<SumAtMost>(row),
-            Kind::SumAtLeast => starting_line::<SumAtLeast>(row),
-            Kind::GreatestAtMost => starting_line::<GreatestAtMost>(row),
-        }
+        at_joining!(self.grid.kind(row), LineIn::starting(row))
     }
 
     // Whether the constant of a line, joined with the amounts above its level, is worse than the limit of its row.
@@ -46,24 +54,20 @@ impl Search {
         ensures { result ≡ ((chosen_from self.now).joining line.row).worse (joined_above (chosen_from self.now) line.row line.level line.constant (drop line.level (versions_of self.now.grid.places part.now))) (force self.now line.row) }
     {
         let limit = self.limit(line.row);
-        match self.grid.kind(line.row) {
-            Kind::SumAtMost => breaks::<SumAtMost>(&self.grid, part, line, limit),
-            Kind::SumAtLeast => breaks::<SumAtLeast>(&self.grid, part, line, limit),
-            Kind::GreatestAtMost => breaks::<GreatestAtMost>(&self.grid, part, line, limit),
-        }
+        at_joining!(
+            self.grid.kind(line.row),
+            LineIn::new(&self.grid, line).breaks(part, limit)
+        )
     }
 
-    // Adds a line to a draft as it is learned at an index from a ground that stands with a version there.
-    pub(super) fn put_line(&self, draft: &mut Draft, index: usize, version: u8, line: Line)
-        requires { (index < most_places) × (Near line) }
-        ensures { drafted draft.new ≡ with_line (chosen_from self.now) (moved_at (chosen_from self.now) (index + 1) version line) (drafted draft.old) }
+    // Adds a line to a draft as it is learned from a ground that stands with a picked version.
+    pub(super) fn put_line(&self, draft: &mut Draft, pick: Pick, line: Line)
+        requires { Near line }
+        ensures { drafted draft.new ≡ with_line (chosen_from self.now) (moved_at (chosen_from self.now) (pick.index + 1) pick.version line) (drafted draft.old) }
     {
-        match self.grid.kind(line.row) {
-            Kind::SumAtMost => put_moved::<SumAtMost>(&self.grid, draft, index, version, line),
-            Kind::SumAtLeast => put_moved::<SumAtLeast>(&self.grid, draft, index, version, line),
-            Kind::GreatestAtMost => {
-                put_moved::<GreatestAtMost>(&self.grid, draft, index, version, line);
-            }
-        }
+        at_joining!(
+            self.grid.kind(line.row),
+            LineIn::new(&self.grid, line).put_moved(draft, pick)
+        );
     }
 }

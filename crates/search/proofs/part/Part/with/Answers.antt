@@ -5,4 +5,5 @@ use Rattle.search.proofs.part.Part.with.Goals as goal
 pub returns : goal.returns
 returns c =
     let p = c.args.self in
-    record { opened = refl; part = λ n low few. put_on p.versions n c.args.index c.args.version low (omega (arith, p.long)) }
+    let pick = c.args.pick in
+    record { opened = refl; part = λ n low few. put_on p.versions n pick.index pick.version low (omega (arith, p.long)) }

@@ -1,0 +1,46 @@
+// Which grounds stand.
+ghost use Rattle.std.specs.Prelude.{◌≡◌, [], length, slice_index_or};
+ghost use Rattle.ledger.specs.Lines.{Near, AllNear};
+ghost use Rattle.search.specs.States.{grounds, picked, IndexBelow};
+ghost use Rattle.search.specs.Trials.{line_holds, holds, first_at};
+
+use crate::search::trial::Trial;
+use rules::Line;
+
+impl Trial<'_> {
+    // A line stands when its level is at least the number of open places, and what it comes to is worse than the limit of its row.
+    fn line_stands(&self, line: Line) -> bool
+        requires near { Near line }
+        ensures { result ≡ line_holds self.now line }
+    {
+        self.part.opened() <= usize::from(line.level) && self.search.breaks_limit(&self.part, line)
+    }
+
+    // A ground stands when each of its lines does; the first that doesn't ends the look.
+    fn lines_stand(&self, ground: &[Line]) -> bool
+        requires near { AllNear ground.now }
+        ensures { result ≡ holds self.now ground.now }
+    {
+        for line in ground {
+            if !self.line_stands(*line) {
+                return false;
+            }
+        }
+        true
+    }
+
+    // Whether the ground at an index stands.
+    pub(crate) fn ground_stands(&self, index: usize) -> bool
+        ensures { result ≡ holds self.now (slice_index_or (grounds self.now.search.now) index []) }
+    {
+        self.lines_stand(self.search.ground(index).lines())
+    }
+
+    // The first ground that stands, by its index.
+    pub(crate) fn first_standing(&self) -> Option<usize>
+        ensures first { picked (grounds self.now.search.now) result ≡ first_at self.now (grounds self.now.search.now) }
+        ensures there { IndexBelow (length (grounds self.now.search.now)) result }
+    {
+        (0..self.search.ground_count()).find(|index| self.ground_stands(*index))
+    }
+}
