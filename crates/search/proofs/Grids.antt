@@ -177,9 +177,9 @@ module _ (ps : List Position) (good : Good ps) (p v row : ℕ) (z : ℤ) (low : 
   amounts_set : amount_at (put_slot ps (p - 1) (v - 1) row z) ≡ (λ r q w. cond (one_position q p && (eqb w v && eqb r row)) z (amount_at ps r q w))
   amounts_set = fun_ext (λ r. fun_ext (λ q. fun_ext (λ w. by_version (has_version w) w q r refl)))
 
-  pub amounts_put : (p' v' row' : ℕ) (z' : ℤ) → p' ≡ p → v' ≡ v → row' ≡ row → z' ≡ z → amount_at (put_slot ps (p' - 1) (v' - 1) row' z') ≡ (λ r q w. cond (one_position q p && (eqb w v && eqb r row)) z (amount_at ps r q w))
-  amounts_put p' v' row' z' a b c d =
-      ap (λ x. amount_at (put_slot ps (x - 1) (v' - 1) row' z')) a ∙ ap (λ x. amount_at (put_slot ps (p - 1) (x - 1) row' z')) b ∙ ap (λ x. amount_at (put_slot ps (p - 1) (v - 1) x z')) c ∙ ap (λ x. amount_at (put_slot ps (p - 1) (v - 1) row x)) d ∙ amounts_set
+  pub amounts_put : (i v' row' : ℕ) (z' : ℤ) → i ≡ p - 1 → v' ≡ v → row' ≡ row → z' ≡ z → amount_at (put_slot ps i (v' - 1) row' z') ≡ (λ r q w. cond (one_position q p && (eqb w v && eqb r row)) z (amount_at ps r q w))
+  amounts_put i v' row' z' a b c d =
+      ap (λ x. amount_at (put_slot ps x (v' - 1) row' z')) a ∙ ap (λ x. amount_at (put_slot ps (p - 1) (x - 1) row' z')) b ∙ ap (λ x. amount_at (put_slot ps (p - 1) (v - 1) x z')) c ∙ ap (λ x. amount_at (put_slot ps (p - 1) (v - 1) row x)) d ∙ amounts_set
 
 -- settings with the same parts
 pub same_setting : {n m n' m' : ℕ} {j j' : ℕ → Joining} {k k' : ℕ → ℕ} {a a' : ℕ → ℕ → ℕ → ℤ} → n ≡ n' → m ≡ m' → j ≡ j' → k ≡ k' → a ≡ a' → ◌≡◌ {A = Setting} (record { places = n; last_row = m; joining = j; versions = k; amount = a }) (record { places = n'; last_row = m'; joining = j'; versions = k'; amount = a' })

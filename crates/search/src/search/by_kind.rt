@@ -17,11 +17,11 @@ use rules::{Kind, Line};
 
 // A call at the joining of a kind.
 macro_rules! at_joining {
-    ($kind:expr, $of:ident::$make:ident($($with:expr),*) $(.$then:ident($($and:expr),*))?) => {
+    ($kind:expr, $of:ident $($call:tt)*) => {
         match $kind {
-            Kind::SumAtMost => $of::<SumAtMost>::$make($($with),*)$(.$then($($and),*))?,
-            Kind::SumAtLeast => $of::<SumAtLeast>::$make($($with),*)$(.$then($($and),*))?,
-            Kind::GreatestAtMost => $of::<GreatestAtMost>::$make($($with),*)$(.$then($($and),*))?,
+            Kind::SumAtMost => $of::<SumAtMost>$($call)*,
+            Kind::SumAtLeast => $of::<SumAtLeast>$($call)*,
+            Kind::GreatestAtMost => $of::<GreatestAtMost>$($call)*,
         }
     };
 }
