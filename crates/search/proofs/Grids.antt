@@ -1,5 +1,5 @@
 -- What the tables of a grid hold. Assumes nothing.
-use Rattle.std.proofs.Common.{◌≡◌, ℕ, ◌+◌, ◌-◌, ◌<◌, ◌≤◌, Bool, true, false, cond, ◌&&◌, eqb, leb, List, length, get_or, set, replicate, ℤ, pos, nat_abs, sym, refl, ap, ◌∙◌, ⊎_elim, arith, length-set}
+use Rattle.std.proofs.Common.{◌≡◌, ℕ, ◌-◌, ◌<◌, ◌≤◌, Bool, true, false, cond, ◌&&◌, eqb, leb, List, length, get_or, set, replicate, ℤ, pos, nat_abs, sym, refl, ap, ◌∙◌, ⊎_elim, arith, length-set}
 use mathlib.Core.Path.{fun_ext}
 use Rattle.std.proofs.lemmas.List.{get_or-set_same, get_or-set_other, get_or-replicate}
 use Rattle.std.proofs.lemmas.Bool.{cases_eq, eq-eqb, ne_eqb, cond-true, cond-false, and_from, and_parts, and_left, and_right, both_ways, le-leb, leb-true}
@@ -10,18 +10,10 @@ use Rattle.rules.specs.declared.kinds.Kind.TheVariants.{SumAtMost}
 use Rattle.rules.specs.Joinings.{Joining, joining}
 use Rattle.rules.specs.Grounds.{Setting}
 use Rattle.ledger.proofs.Nears.{set_either, replicate_either}
-use Rattle.search.specs.Tables.{no_amounts, no_position, count_at, slot, has_version, amount_at, Counted, Long, Wide, Near, put_row, put_version, put_count, put_slot}
+use Rattle.search.specs.Tables.{no_amounts, no_position, count_at, slot, has_version, amount_at, Counted, Long, Wide, Near, put_row, put_version, put_slot}
 use Rattle.search.specs.Settings.{one_position}
 use Rattle.search.specs.declared.position.Amounts.{Amounts}
 use Rattle.search.specs.declared.position.Position.{Position}
-
-pub count_is : (ps : List Position) (i : ℕ) → (get_or ps i no_position).count ≡ count_at ps (i + 1)
-count_is ps i = let back : i ≡ i + 1 - 1 = omega arith in ap (λ j. (get_or ps j no_position).count) back
-
-pub amount_is : (ps : List Position) (r i v : ℕ) → 1 ≤ v → v ≤ most_versions → slot ps i (v - 1) r ≡ amount_at ps r (i + 1) v
-amount_is ps r i v some most =
-    let back : i ≡ i + 1 - 1 = omega arith in
-    ap (λ j. slot ps j (v - 1) r) back ∙ sym (cond-true (has_version v) _ _ (and_from (leb 1 v) (leb v most_versions) (le-leb 1 v some) (le-leb v most_versions most)))
 
 -- what the tables keep, at one position
 abbrev GoodPosition : Position → Type 0
@@ -52,11 +44,6 @@ good_set ps i x good new =
         ),
       ),
     )
-
-pub good_count : (ps : List Position) (i n : ℕ) → i < most_places → n ≤ most_versions → Good ps → Good (set ps i (put_count (get_or ps i no_position) n))
-good_count ps i n low most good =
-    let old = at_position ps good i low in
-    good_set ps i _ good (most, old.1, old.2, old.3)
 
 pub good_slot : (ps : List Position) (i j r : ℕ) (z : ℤ) → i < most_places → j < most_versions → nat_abs z ≤ greatest_amount → Good ps → Good (put_slot ps i j r z)
 good_slot ps i j r z low few near good =

@@ -1,18 +1,7 @@
 -- A ground is learned, one line and one version more at a time. Assumes nothing.
-use Rattle.std.proofs.Common.{◌≡◌, ℕ, suc, ◌+◌, ◌-◌, ◌<◌, ◌≤◌, map, length, get_or, drop, sym, ap, ◌∙◌, arith}
-use Rattle.std.proofs.lemmas.List.{at_drop_more, at_drop_all}
-use Rattle.rules.specs.declared.lines.Line.{Line}
-use Rattle.rules.specs.Grounds.{Setting, Part, Ground, open_places, moved, with_line, with_lines, learned_up_to, learn_from}
-use Rattle.ledger.specs.Lines.{no_line}
+use Rattle.std.proofs.Common.{◌≡◌, ℕ, suc, ◌-◌, ◌≤◌, map, sym, ap, ◌∙◌, arith}
+use Rattle.rules.specs.Grounds.{Setting, Part, Ground, open_places, moved, with_lines, learned_up_to, learn_from}
 use Rattle.search.specs.States.{moved_at}
-
--- the lines of a ground, put into a draft one after the other
-module _ (S : Setting) (f : Line → Line) (g : Ground) (i : ℕ) where
-  pub lines_more : (d e : Ground) → i < length g → e ≡ with_line S (f (get_or g i no_line)) d → with_lines S (map f (drop i g)) d ≡ with_lines S (map f (drop (i + 1) g)) e
-  lines_more d e within put = at_drop_more (λ t. with_lines S (map f t) d) g i no_line within ∙ ap (with_lines S (map f (drop (i + 1) g))) (sym put)
-
-  pub lines_all : (d : Ground) → length g ≤ i → with_lines S (map f (drop i g)) d ≡ d
-  lines_all d past = at_drop_all (λ t. with_lines S (map f t) d) g i past
 
 -- what the versions give, one after the other, at a position
 module _ (S : Setting) (t : Part) (pick : ℕ → Ground) (p : ℕ) (at : open_places S t ≡ p) where

@@ -1,24 +1,12 @@
 -- The grounds that stand, one line and one ground more at a time. Assumes nothing.
-use Rattle.std.proofs.Common.{◌≡◌, ℕ, zero, suc, ◌+◌, ◌-◌, ◌<◌, ◌≤◌, true, false, ◌&&◌, List, [], ◌∷◌, length, get_or, drop, Some, None, Option, MatchOption, sym, refl, ap, ◌∙◌, ⊎_elim, arith, length-append}
+use Rattle.std.proofs.Common.{◌≡◌, ℕ, zero, suc, ◌+◌, ◌-◌, ◌<◌, ◌≤◌, true, false, List, [], ◌∷◌, length, get_or, drop, Some, None, Option, MatchOption, sym, refl, ap, ◌∙◌, ⊎_elim, arith, length-append}
 use Rattle.std.proofs.lemmas.List.{at_drop_more, at_drop_all, get_or_append_left, get_or-append_right, get_or_push}
-use Rattle.std.proofs.lemmas.Bool.{and_left, cond-true, cond-false, cases_lt}
-use Rattle.rules.specs.declared.lines.Line.{Line}
+use Rattle.std.proofs.lemmas.Bool.{cond-true, cond-false, cases_lt}
 use Rattle.rules.specs.Sheets.{Limits}
-use Rattle.rules.specs.Grounds.{Setting, Part, Ground, line_stands, stands, first_standing, starting, ledger, of_row}
-use Rattle.ledger.specs.Lines.{no_line}
+use Rattle.rules.specs.Grounds.{Setting, Part, Ground, stands, first_standing, starting, ledger, of_row}
 use Rattle.search.specs.States.{picked}
 
 module _ (S : Setting) (L : Limits) (s : Part) where
-  module _ (g : Ground) (i : ℕ) where
-    pub ground_more : i < length g → line_stands S L s (get_or g i no_line) ≡ true → stands S L s (drop i g) ≡ stands S L s (drop (i + 1) g)
-    ground_more within on = at_drop_more (stands S L s) g i no_line within ∙ ap (λ b. b && stands S L s (drop (i + 1) g)) on
-
-    pub ground_fails : i < length g → line_stands S L s (get_or g i no_line) ≡ false → stands S L s (drop i g) ≡ false
-    ground_fails within falls = at_drop_more (stands S L s) g i no_line within ∙ and_left (line_stands S L s (get_or g i no_line)) _ falls
-
-    pub ground_all : length g ≤ i → stands S L s (drop i g) ≡ true
-    ground_all past = at_drop_all (stands S L s) g i past
-
   module _ (gs : List Ground) (i : ℕ) where
     pub first_found : i < length gs → stands S L s (get_or gs i []) ≡ true → first_standing S L (drop i gs) s ≡ Some (get_or gs i [])
     first_found within on = at_drop_more (λ t. first_standing S L t s) gs i [] within ∙ cond-true (stands S L s (get_or gs i [])) _ _ on

@@ -1,7 +1,15 @@
 use Rattle.std.proofs.Common.{◌≡◌, ◌+◌, refl, arith, w32, to_z, of_z}
 use borrow.Author.Differences.{ints}
-use Rattle.search.proofs.Grids.{Good, amounts_put, counts_kept, same_setting}
+use Rattle.search.proofs.Grids.{Good, good_slot, amounts_put, counts_kept, same_setting}
 use Rattle.search.proofs.grid.Grid.put_amount.Goals as goal
+
+pub invariant_of-self : goal.invariant_of-self
+invariant_of-self c =
+    let s = c.args.self.now in
+    let z : to_z w32 (of_z w32 c.args.amount) ≡ c.args.amount = omega (arith, ints) in
+    let near = rw (← z) at c.requires.near in
+    let g = good_slot s.positions _ _ _ _ c.args.pick.there (omega arith) near (s.whole, (s.counted, (s.long, (s.wide, (s.near, tt))))) in
+    record { sized = s.sized; priced = s.priced; whole = g.0; counted = g.1.0; long = g.1.1.0; wide = g.1.1.1.0; near = g.1.1.1.1.0 }
 
 pub returns : goal.returns
 returns c =

@@ -1,8 +1,8 @@
-use Rattle.std.proofs.Common.{◌≡◌, ℕ, ◌-◌, ◌<◌, [], get_or, ℤ, ap, ◌∙◌, arith, w64, to_z, of_z}
+use Rattle.std.proofs.Common.{◌≡◌, ℕ, ◌-◌, ◌<◌, get_or, ℤ, ap, ◌∙◌, arith, w64, to_z, of_z}
 use borrow.Author.Differences.{ints}
 use Rattle.rules.specs.Search.{go_on, stepped}
 use Rattle.search.specs.Parts.{versions_of}
-use Rattle.search.specs.States.{chosen_from, job_limits, state_of, above, grounds}
+use Rattle.search.specs.States.{chosen_from, job_limits, state_of, above}
 use Rattle.search.specs.Nexts.{best_at}
 use Rattle.search.proofs.Parts.{open_part, part_none, part_head, part_above}
 use Rattle.search.proofs.NextSteps.{next_ended, next_place, next_best, next_open}

@@ -1,5 +1,4 @@
-use Rattle.std.proofs.Common.{◌+◌, ◌<◌, ◌≤◌, List, ℤ, sym, refl, ap, ◌∙◌, arith}
-use Rattle.rules.specs.Bounds.{most_steps}
+use Rattle.std.proofs.Common.{List, ℤ, sym, refl, ap, ◌∙◌, arith}
 use Rattle.rules.specs.Calls.{Reply, Ran, run_reply, running}
 use Rattle.ledger.specs.Model.{held}
 use Rattle.search.specs.Findings.{all_shaped}

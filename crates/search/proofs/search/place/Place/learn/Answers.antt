@@ -1,4 +1,4 @@
-use Rattle.std.proofs.Common.{◌≡◌, ◌+◌, ◌-◌, ap, sym, ◌∙◌, arith}
+use Rattle.std.proofs.Common.{◌≡◌, ◌+◌, ◌-◌, ap, ◌∙◌, arith}
 use Rattle.rules.specs.Grounds.{learned_up_to}
 use Rattle.ledger.specs.Drafted.{drafted}
 use Rattle.search.specs.States.{chosen_from, pick_of}

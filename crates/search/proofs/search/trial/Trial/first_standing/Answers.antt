@@ -1,4 +1,4 @@
-use Rattle.std.proofs.Common.{◌≡◌, [], true, false, get_or, sym, rules, tests}
+use Rattle.std.proofs.Common.{◌≡◌, [], true, false, get_or, rules, tests}
 use Rattle.std.proofs.lemmas.Iterator.{first_from_Range}
 use Rattle.search.specs.States.{chosen_from, force, grounds}
 use Rattle.search.specs.Trials.{tried, holds}
