@@ -23,27 +23,26 @@ GoodPosition p =
     × ((j r : ℕ) → nat_abs (get_or (get_or p.versions j no_amounts).rows r (pos 0)) ≤ greatest_amount)
 
 -- what they keep, at all positions
-abbrev pub Good : List Position → Type 0
-Good ps = (length ps ≡ most_places) × (Counted ps × (Long ps × (Wide ps × (Near ps × Unit {0}))))
+pub record Good (ps : List Position) : Type 0 where
+  pub whole : length ps ≡ most_places
+  pub counted : Counted ps
+  pub long : Long ps
+  pub wide : Wide ps
+  pub near : Near ps
 
 at_position : (ps : List Position) → Good ps → (i : ℕ) → i < most_places → GoodPosition (get_or ps i no_position)
-at_position ps good i low = (good.1.0 i low, good.1.1.0 i low, (λ j few. good.1.1.1.0 i j (low, few)), good.1.1.1.1.0 i)
+at_position ps good i low = (good.counted i low, good.long i low, (λ j few. good.wide i j (low, few)), good.near i)
 
 good_set : (ps : List Position) (i : ℕ) (x : Position) → Good ps → GoodPosition x → Good (set ps i x)
 good_set ps i x good new =
-    let at : (k : ℕ) → k < most_places → GoodPosition (get_or (set ps i x) k no_position) = λ k low. set_either GoodPosition ps i k x no_position new (at_position ps good k low) in (
-      length-set ps i x ∙ good.0,
-      (
-        (λ k low. (at k low).0),
-        (
-          (λ k low. (at k low).1),
-          (
-            (λ k j there. (at k there.0).2 j there.1),
-            ((λ k j r. set_either (λ (p : Position). nat_abs (get_or (get_or p.versions j no_amounts).rows r (pos 0)) ≤ greatest_amount) ps i k x no_position (new.3 j r) (good.1.1.1.1.0 k j r)), tt),
-          ),
-        ),
-      ),
-    )
+    let at : (k : ℕ) → k < most_places → GoodPosition (get_or (set ps i x) k no_position) = λ k low. set_either GoodPosition ps i k x no_position new (at_position ps good k low) in
+    record {
+      whole = length-set ps i x ∙ good.whole;
+      counted = λ k low. (at k low).0;
+      long = λ k low. (at k low).1;
+      wide = λ k j there. (at k there.0).2 j there.1;
+      near = λ k j r. set_either (λ (p : Position). nat_abs (get_or (get_or p.versions j no_amounts).rows r (pos 0)) ≤ greatest_amount) ps i k x no_position (new.3 j r) (good.near k j r);
+    }
 
 pub good_slot : (ps : List Position) (i j r : ℕ) (z : ℤ) → i < most_places → j < most_versions → nat_abs z ≤ greatest_amount → Good ps → Good (put_slot ps i j r z)
 good_slot ps i j r z low few near good =
@@ -74,19 +73,14 @@ blank_slot i j r =
     refl
 
 pub good_blank : Good blank_positions
-good_blank = (
-  refl,
-  (
-    (λ i low. let none = ap (λ (p : Position). p.count) (get_or-replicate most_places i blank_position no_position low) in omega arith),
-    (
-      (λ i low. ap (λ (p : Position). length p.versions) (get_or-replicate most_places i blank_position no_position low)),
-      (
-        (λ i j there. ap (λ (p : Position). length (get_or p.versions j no_amounts).rows) (get_or-replicate most_places i blank_position no_position there.0) ∙ ap (λ (a : Amounts). length a.rows) (get_or-replicate most_versions j blank_amounts no_amounts there.1)),
-        ((λ i j r. let none = ap nat_abs (blank_slot i j r) in omega arith), tt),
-      ),
-    ),
-  ),
-)
+good_blank =
+    record {
+      whole = refl;
+      counted = λ i low. let none = ap (λ (p : Position). p.count) (get_or-replicate most_places i blank_position no_position low) in omega arith;
+      long = λ i low. ap (λ (p : Position). length p.versions) (get_or-replicate most_places i blank_position no_position low);
+      wide = λ i j there. ap (λ (p : Position). length (get_or p.versions j no_amounts).rows) (get_or-replicate most_places i blank_position no_position there.0) ∙ ap (λ (a : Amounts). length a.rows) (get_or-replicate most_versions j blank_amounts no_amounts there.1);
+      near = λ i j r. let none = ap nat_abs (blank_slot i j r) in omega arith;
+    }
 
 pub blank_counts : count_at blank_positions ≡ (λ p. 0)
 blank_counts = fun_ext (λ p. replicate_either (λ (x : Position). x.count ≡ 0) most_places (p - 1) blank_position no_position refl refl)
@@ -126,7 +120,7 @@ slot_set ps good i j r z low few wide k l q =
     let a = get_or vs j no_amounts in
     ⊎_elim
     (λ e.
-    ap (λ (x : Position). get_or (get_or x.versions l no_amounts).rows q (pos 0)) (ap (λ h. get_or (put_slot ps i j r z) h no_position) e ∙ get_or-set_same ps i _ no_position (omega (arith, good.0)))
+    ap (λ (x : Position). get_or (get_or x.versions l no_amounts).rows q (pos 0)) (ap (λ h. get_or (put_slot ps i j r z) h no_position) e ∙ get_or-set_same ps i _ no_position (omega (arith, good.whole)))
     ∙ ⊎_elim
     (λ f.
     ap (λ (x : Amounts). get_or x.rows q (pos 0)) (ap (λ h. get_or (set vs j (put_row a r z)) h no_amounts) f ∙ get_or-set_same vs j _ no_amounts (omega (arith, old.1)))

@@ -15,7 +15,7 @@ put_on vs n i v low long = ap (drop i) (take_set_in vs n i v) ∙ drop-set (take
 
 -- the table of a part-choice has a version for each place of a search
 pub whole_of : (s : Search) (p : Part) → length (versions_of s.grid.places p) ≡ s.grid.places
-whole_of s p = length-take-le s.grid.places p.versions (omega (arith, p.long, s.grid.sized.0))
+whole_of s p = length-take-le s.grid.places p.versions (omega (arith, p.long, s.grid.few_places))
 
 -- how many places are open below an index, and in the part-choice of a search
 pub open_above : (s : Search) (index : ℕ) → index < s.grid.places → open_places (chosen_from s) (above s index) ≡ index + 1

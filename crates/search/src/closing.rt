@@ -5,6 +5,7 @@ ghost use Rattle.rules.specs.Bounds.{most_rows};
 use rules::{Line, MOST_ROWS};
 
 // The lines of a closing ground: it lies above all positions, and so has no row twice.
+// A verdict is copied, so they stand in an array with their count.
 #[derive(Clone, Copy)]
 pub struct Closing {
     lines: [Line; MOST_ROWS],

@@ -48,7 +48,7 @@ impl Grid {
         ensures is { result ≡ (setting self.now).amount row (pick.index + 1) pick.version }
         ensures near { unsigned_abs result ≤ greatest_amount }
     {
-        if pick.version < 1 || pick.version > MOST_VERSIONS {
+        if !(1..=MOST_VERSIONS).contains(&pick.version) {
             return 0;
         }
         let at = usize::from(pick.version) - 1;

@@ -5,19 +5,8 @@ ghost use Rattle.search.specs.Settings.{setting, blank_setting, put_kind, put_ve
 
 use crate::grid::Grid;
 use crate::pick::Pick;
-use crate::position::{Amounts, Position, VERSIONS};
+use crate::position::Position;
 use rules::{GREATEST_AMOUNT, GREATEST_ROW, Kind, MOST_PLACES, MOST_ROWS, MOST_VERSIONS, Refusal};
-
-// What stands in the table for a version that no amount is set for.
-const NO_AMOUNTS: Amounts = Amounts {
-    rows: [0; MOST_ROWS],
-};
-
-// What stands in the table for a position that nothing is set for.
-const NO_POSITION: Position = Position {
-    count: 0,
-    versions: [NO_AMOUNTS; VERSIONS],
-};
 
 impl Grid {
     // A grid with no versions and no amounts, every row being added up.
@@ -30,7 +19,7 @@ impl Grid {
             places,
             last_row,
             kinds: [Kind::SumAtMost; MOST_ROWS],
-            positions: [NO_POSITION; MOST_PLACES],
+            positions: [Position::default(); MOST_PLACES],
         }
     }
 
@@ -50,7 +39,7 @@ impl Grid {
         ensures set { OnOk result (setting self.new ≡ put_kind (setting self.old) row kind) }
         ensures refused { OnErr result (self.new ≡ self.old) }
     {
-        if row < 1 || usize::from(row) > GREATEST_ROW {
+        if !(1..=GREATEST_ROW).contains(&usize::from(row)) {
             return Err(Refusal::NoSuchRow);
         }
         self.kinds[usize::from(row)] = kind;
@@ -62,7 +51,7 @@ impl Grid {
         ensures { result ≡ index_told (setting self.now) position }
     {
         let index = usize::from(position);
-        if index < 1 || index > self.places {
+        if !(1..=self.places).contains(&index) {
             return Err(Refusal::PlaceOutOfTurn);
         }
         Ok(index - 1)
@@ -99,7 +88,7 @@ impl Grid {
             return Err(Refusal::NoSuchRow);
         }
         let index = self.index_of(position)?;
-        if version < 1 || version > MOST_VERSIONS {
+        if !(1..=MOST_VERSIONS).contains(&version) {
             return Err(Refusal::VersionsOutside);
         }
         if amount.unsigned_abs() > GREATEST_AMOUNT {

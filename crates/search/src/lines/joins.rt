@@ -52,7 +52,8 @@ impl<'g, J: Joining> LineIn<'g, J> {
         J::join(constant, self.grid.amount(self.line.row, pick))
     }
 
-    // The constant, joined with the amounts of the row at the positions above the level.
+    // The constant, joined with the amounts of the row at the positions above the level; by index from the top down, which versions and
+    // amounts go by, with the constant within reach at each.
     pub(crate) fn joined_above(&self, part: &Part) -> i64
         ensures is { let l = self.now.line in result ≡ joined_above (setting self.now.grid.now) l.row l.level l.constant (drop l.level (versions_of self.now.grid.now.places part.now)) }
         ensures near { unsigned_abs result ≤ reach (most_places + most_places) }

@@ -24,7 +24,7 @@ impl<'a> Place<'a> {
         }
     }
 
-    // The lowest version with which no ground stands.
+    // The lowest version with which no ground stands. Loops with labels: at the first ground that stands, on to the next version.
     pub(crate) fn free_version(&self) -> Option<u8>
         ensures { let s = self.now.search.now in result ≡ lowest_free (chosen_from s) (job_limits s) (state_of s) (above self.now) ((chosen_from s).versions (self.now.index + 1)) }
     {

@@ -16,7 +16,7 @@ impl Trial<'_> {
         self.part.opened() <= usize::from(line.level) && self.search.breaks_limit(&self.part, line)
     }
 
-    // A ground stands when each of its lines does; the first that doesn't ends the look.
+    // A ground stands when each of its lines does; a plain loop, left at the first that doesn't.
     fn lines_stand(&self, ground: &[Line]) -> bool
         requires near { AllNear ground.now }
         ensures { result ≡ holds self.now ground.now }
