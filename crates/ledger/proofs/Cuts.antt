@@ -1,106 +1,127 @@
 -- What a write to the tables does to the grounds. Assumes nothing.
-use Rattle.std.proofs.Common.{◌≡◌, ℕ, zero, suc, ◌+◌, ◌-◌, ◌<◌, ◌≤◌, true, ltb, ◌≢◌, List, [], ◌∷◌, ◌++◌, length, get_or, take, drop, set, replicate, sym, refl, ap, ◌∙◌, subst, ⊎_elim, add-one, arith, length-append, length-drop, get_or-set_other, get_or-set_same, below_more}
-use Rattle.std.proofs.lemmas.List.{drop-set-add, take-set-le, take_more_set, take_more, get_or_append_left, get_or_past, get_or_push}
-use Rattle.std.proofs.lemmas.Bool.{cases_lt, and_parts, ltb-true, leb-true}
+use Rattle.std.proofs.Common.{◌≡◌, ℕ, zero, suc, ◌+◌, ◌-◌, ◌<◌, ◌≤◌, true, eqb, leb, ltb, ◌&&◌, List, [], ◌∷◌, ◌++◌, length, get_or, set, take, drop, sym, refl, ap, ◌∙◌, arith, length-append, length-drop}
+use Rattle.std.proofs.lemmas.List.{take_all, take_at, get_or_at, take-append-le, drop-append-le, length-map}
+use Rattle.std.proofs.lemmas.List.Edits.{length-between}
+use Rattle.std.proofs.lemmas.Bool.{and_parts, and_from, leb-true, le-leb, eqb-true, eq-eqb}
 use Rattle.rules.specs.declared.lines.Line.{Line}
-use Rattle.rules.specs.Bounds.{most_grounds, most_lines}
 use Rattle.rules.specs.Grounds.{Ground}
+use Rattle.rules.specs.Bounds.{most_grounds, most_lines}
 use Rattle.rules.specs.Search.{line_count, room}
-use Rattle.ledger.specs.Lines.{no_line, AllNear, all_near}
-use Rattle.ledger.specs.Tables.{no_record, cut, grounds_of, end_of}
-use Rattle.ledger.specs.Model.{held, takes}
+use Rattle.ledger.specs.Lines.{AllNear}
+use Rattle.ledger.specs.Tables.{cut, grounds_of, adjoin}
+use Rattle.ledger.specs.Model.{held}
 use Rattle.ledger.specs.declared.records.GroundRecord.{GroundRecord}
 use Rattle.ledger.specs.declared.table.Ledger.{Ledger}
-use Rattle.ledger.proofs.Nears.{near_none, near_part, all_near_since, replicate_either}
+use Rattle.ledger.proofs.Nears.{near_none, near_part}
 
--- a line written past a ground leaves it
-cut_set : (ls : List Line) (g : GroundRecord) (i : ℕ) (x : Line) → g.start + g.count ≤ i → cut (set ls i x) g ≡ cut ls g
-cut_set ls g i x h =
-    let at : i ≡ g.start + (i - g.start) = omega arith in
-    let past : g.count ≤ i - g.start = omega arith in
-    ap (λ j. take g.count (drop g.start (set ls j x))) at
-    ∙ ap (take g.count) (drop-set-add g.start ls (i - g.start) x)
-    ∙ take-set-le g.count (drop g.start ls) (i - g.start) x past
-
-grounds_same : (ls ks : List Line) (gs hs : List GroundRecord) (n : ℕ) → ((k : ℕ) → k < n → cut ls (get_or gs k no_record) ≡ cut ks (get_or hs k no_record)) → grounds_of ls gs n ≡ grounds_of ks hs n
-grounds_same ls ks gs hs zero same = refl
-grounds_same ls ks gs hs (suc n) same =
-    ap (λ s. s ++ (cut ls (get_or gs n no_record) ∷ [])) (grounds_same ls ks gs hs n (λ k h. same k (omega arith)))
-    ∙ ap (λ c. grounds_of ks hs n ++ (c ∷ [])) (same n (omega arith))
-
--- a line written behind all grounds leaves them
-pub grounds_put : (ls : List Line) (gs : List GroundRecord) (n at : ℕ) (x : Line) → ((k : ℕ) → k < n → end_of gs k ≤ at) → grounds_of (set ls at x) gs n ≡ grounds_of ls gs n
-grounds_put ls gs n at x ends = grounds_same _ _ _ _ n (λ k h. cut_set ls (get_or gs k no_record) at x (ends k h))
-
--- one ground more
-pub grounds_more : (ls : List Line) (gs : List GroundRecord) (n : ℕ) (g : GroundRecord) → n < length gs → grounds_of ls (set gs n g) (n + 1) ≡ grounds_of ls gs n ++ (cut ls g ∷ [])
-grounds_more ls gs n g within =
-    ap (grounds_of ls (set gs n g)) (add-one n)
-    ∙ ap (λ s. s ++ (cut ls (get_or (set gs n g) n no_record) ∷ [])) (grounds_same ls ls (set gs n g) gs n (λ k h. let ne : k ≢ n = omega arith in ap (cut ls) (get_or-set_other gs n k g no_record ne)))
-    ∙ ap (λ r. grounds_of ls gs n ++ (cut ls r ∷ [])) (get_or-set_same gs n g no_record within)
-
-pub grounds_parts : (ls ks : List Line) (gs hs : List GroundRecord) (n m : ℕ) → ls ≡ ks → gs ≡ hs → n ≡ m → grounds_of ls gs n ≡ grounds_of ks hs m
-grounds_parts ls ks gs hs n m p q r = ap (λ l. grounds_of l gs n) p ∙ ap (λ h. grounds_of ks h n) q ∙ ap (grounds_of ks hs) r
-
-pub grounds_length : (ls : List Line) (gs : List GroundRecord) (n : ℕ) → length (grounds_of ls gs n) ≡ n
-grounds_length ls gs zero = refl
-grounds_length ls gs (suc n) = length-append (grounds_of ls gs n) _ ∙ omega (arith, grounds_length ls gs n)
-
-pub grounds_at : (ls : List Line) (gs : List GroundRecord) (n k : ℕ) → k < n → get_or (grounds_of ls gs n) k [] ≡ cut ls (get_or gs k no_record)
-grounds_at ls gs zero k h = let none : ⊥ = omega arith in absurd none
-grounds_at ls gs (suc n) k h =
-    let long = grounds_length ls gs n in
-    ⊎_elim
-    (λ lt. get_or_append_left (grounds_of ls gs n) _ [] k (omega arith) ∙ grounds_at ls gs n k lt)
-    (λ le. let is : k ≡ n = omega arith in get_or_push (grounds_of ls gs n) (cut ls (get_or gs n no_record)) [] k (omega arith) ∙ ap (λ j. cut ls (get_or gs j no_record)) (sym is))
-    (cases_lt k n)
-
--- no ground ends later than the last one
-pub ends_more : (gs : List GroundRecord) (n o e : ℕ) (g : GroundRecord) → n < length gs → ((k : ℕ) → k < n → end_of gs k ≤ o) → o ≤ e → g.start + g.count ≤ e → (k : ℕ) → k < n + 1 → end_of (set gs n g) k ≤ e
-ends_more gs n o e g within old far new =
-    below_more _ n
-    (λ k h. let ne : k ≢ n = omega arith in let was = old k h in rw get_or-set_other (omega arith))
-    (rw get_or-set_same new)
-
-line_count_push : (gs : List Ground) (g : Ground) → line_count (gs ++ (g ∷ [])) ≡ line_count gs + length g
-line_count_push [] g = omega arith
-line_count_push (h ∷ gs) g = omega (arith, line_count_push gs g)
-
--- the counts that a ledger keeps, with one ground more
-pub counts_more : (gs : List Ground) (g : Ground) (hs : List Ground) → hs ≡ gs ++ (g ∷ []) → (length hs ≡ length gs + 1) × (line_count hs ≡ line_count gs + length g)
-counts_more gs g hs is = (ap length is ∙ length-append gs (g ∷ []) ∙ omega arith, ap line_count is ∙ line_count_push gs g)
+near_cuts : (ls : List Line) (gs : List GroundRecord) (k : ℕ) → AllNear ls → AllNear (get_or (grounds_of ls gs) k [])
+near_cuts ls [] k all = λ j. near_none
+near_cuts ls (g ∷ gs) zero all = near_part g.start (g.end - g.start) ls all
+near_cuts ls (g ∷ gs) (suc k) all = near_cuts ls gs k all
 
 -- the lines of each ground are ones that the tables hold
 pub held_near : (s : Ledger) (k : ℕ) → AllNear (get_or (held s) k [])
-held_near s k =
-    let g = get_or s.grounds k no_record in
-    ⊎_elim
-    (λ lt. subst AllNear (sym (grounds_at s.lines s.grounds s.ground_count k lt)) (near_part g.start g.count s.lines s.near))
-    (λ le. subst AllNear (sym (get_or_past (held s) k [] (omega (arith, s.listed)))) (λ j. near_none))
-    (cases_lt k s.ground_count)
+held_near s k = near_cuts s.lines.items s.grounds.items k s.near
 
--- what is taken has its space
-pub takes_counts : (s : Ledger) (g : Ground) → takes (held s) g ≡ true → (s.ground_count < most_grounds) × (s.line_count + length g ≤ most_lines) × AllNear g
-takes_counts s g h =
-    let both = and_parts (room (held s) g) (all_near g) h in
-    let parts = and_parts (ltb (length (held s)) most_grounds) _ both.0 in
-    let few = ltb-true _ _ parts.0 in
-    let fits = leb-true _ _ parts.1 in
-    let listed = s.listed in
-    let counted = s.counted in
-    (omega arith, omega arith, all_near_since g both.1)
+-- what the first record tells
+first_adjoins : (g : GroundRecord) (gs : List GroundRecord) (from to : ℕ) → adjoin (g ∷ gs) from to ≡ true → (g.start ≡ from) × (from ≤ g.end) × (adjoin gs g.end to ≡ true)
+first_adjoins g gs from to h =
+    let both = and_parts (eqb g.start from && leb from g.end) _ h in
+    let ends = and_parts (eqb g.start from) _ both.0 in
+    (eqb-true _ _ ends.0, leb-true _ _ ends.1, both.1)
 
--- one line more of a ground copied into the table
-pub copied_more : (ls g : List Line) (o i at : ℕ) → at ≡ o + i → at < length ls → i < length g → take i (drop o ls) ≡ take i g → take (i + 1) (drop o (set ls at (get_or g i no_line))) ≡ take (i + 1) g
-copied_more ls g o i at is within low so_far =
-    let x = get_or g i no_line in
-    let fits : i < length (drop o ls) = simp length-drop (omega arith) in
-    ap (λ n. take (i + 1) (drop o (set ls n x))) is ∙ ap (take (i + 1)) (drop-set-add o ls i x) ∙ take_more_set (drop o ls) i x fits ∙ ap (λ t. t ++ (x ∷ [])) so_far ∙ sym (take_more g i no_line low)
+adjoins : (g : GroundRecord) (gs : List GroundRecord) (from to : ℕ) → g.start ≡ from → from ≤ g.end → adjoin gs g.end to ≡ true → adjoin (g ∷ gs) from to ≡ true
+adjoins g gs from to first long rest = and_from (eqb g.start from && leb from g.end) _ (and_from (eqb g.start from) _ (eq-eqb _ _ first) (le-leb _ _ long)) rest
 
--- a record of no ground has no lines
-pub blank_ends : (k : ℕ) → end_of (replicate most_grounds no_record) k ≤ 0
-blank_ends k = replicate_either (λ r. r.start + r.count ≤ 0) most_grounds k no_record no_record (omega arith) (omega arith)
+adjoin_upward : (gs : List GroundRecord) (from to : ℕ) → adjoin gs from to ≡ true → from ≤ to
+adjoin_upward [] from to h = omega (arith, eqb-true from to h)
+adjoin_upward (g ∷ gs) from to h = let first = first_adjoins g gs from to h in omega (arith, first.1, adjoin_upward gs g.end to first.2)
 
--- a record more, of lines that stand behind those in use, is a ground more
-pub appended : (s : Ledger) (g : Ground) → s.ground_count < length s.grounds → take (length g) (drop s.line_count s.lines) ≡ g → grounds_of s.lines (set s.grounds s.ground_count (record { start = s.line_count; count = length g })) (s.ground_count + 1) ≡ held s ++ (g ∷ [])
-appended s g there is = grounds_more s.lines s.grounds s.ground_count _ there ∙ ap (λ t. held s ++ (t ∷ [])) is
+-- each ground lies within the table
+pub adjoin_at : (gs : List GroundRecord) (from to k : ℕ) (d : GroundRecord) → adjoin gs from to ≡ true → k < length gs → ((get_or gs k d).start ≤ (get_or gs k d).end) × ((get_or gs k d).end ≤ to)
+adjoin_at [] from to k d h within = absurd (omega arith)
+adjoin_at (g ∷ gs) from to zero d h within = let first = first_adjoins g gs from to h in (omega (arith, first.0, first.1), adjoin_upward gs g.end to first.2)
+adjoin_at (g ∷ gs) from to (suc k) d h within = adjoin_at gs g.end to k d (first_adjoins g gs from to h).2 (omega arith)
+
+-- the grounds have the lines of the table
+pub adjoin_count : (ls : List Line) (gs : List GroundRecord) (from to : ℕ) → adjoin gs from to ≡ true → to ≤ length ls → line_count (grounds_of ls gs) + from ≡ to
+adjoin_count ls [] from to h within = omega (arith, eqb-true from to h)
+adjoin_count ls (g ∷ gs) from to h within =
+    let first = first_adjoins g gs from to h in
+    let upward = adjoin_upward gs g.end to first.2 in
+    let long = length-between ls g.start g.end (omega arith) in
+    omega (arith, first.0, first.1, long, adjoin_count ls gs g.end to first.2 within)
+
+-- a record more
+pub adjoin_push : (gs : List GroundRecord) (g : GroundRecord) (from to : ℕ) → adjoin gs from to ≡ true → g.start ≡ to → to ≤ g.end → adjoin (gs ++ (g ∷ [])) from g.end ≡ true
+adjoin_push [] g from to h first long = let at = eqb-true from to h in adjoins g [] from g.end (omega arith) (omega arith) (eq-eqb g.end g.end refl)
+adjoin_push (b ∷ gs) g from to h first long = let was = first_adjoins b gs from to h in adjoins b (gs ++ (g ∷ [])) from g.end was.0 was.1 (adjoin_push gs g b.end to was.2 first long)
+
+-- the last record reaches further
+pub adjoin_longer : (gs : List GroundRecord) (from to n e : ℕ) (d : GroundRecord) → adjoin gs from to ≡ true → suc n ≡ length gs → to ≤ e → adjoin (set gs n (record { start = (get_or gs n d).start; end = e })) from e ≡ true
+adjoin_longer [] from to n e d h last long = absurd (omega arith)
+adjoin_longer (g ∷ []) from to zero e d h last long =
+    let first = first_adjoins g [] from to h in
+    let at = eqb-true g.end to first.2 in
+    adjoins (record { start = g.start; end = e }) [] from e first.0 (omega (arith, first.1)) (eq-eqb e e refl)
+adjoin_longer (g ∷ []) from to (suc n) e d h last long = absurd (omega arith)
+adjoin_longer (g ∷ b ∷ gs) from to zero e d h last long = absurd (omega arith)
+adjoin_longer (g ∷ b ∷ gs) from to (suc n) e d h last long =
+    let first = first_adjoins g (b ∷ gs) from to h in
+    adjoins g (set (b ∷ gs) n (record { start = (get_or (b ∷ gs) n d).start; end = e })) from e first.0 first.1 (adjoin_longer (b ∷ gs) g.end to n e d first.2 (omega arith) long)
+
+-- a line behind all grounds leaves those before the last, and goes to the last
+module _ (ls : List Line) (x : Line) where
+  cut_same : (g : GroundRecord) → g.start ≤ g.end → g.end ≤ length ls → cut (ls ++ (x ∷ [])) g ≡ cut ls g
+  cut_same g start end =
+      ap (take (g.end - g.start)) (drop-append-le g.start ls (x ∷ []) (omega arith))
+      ∙ take-append-le (g.end - g.start) (drop g.start ls) (x ∷ []) (simp length-drop (omega arith))
+
+  cut_more : (start : ℕ) → start ≤ length ls → cut (ls ++ (x ∷ [])) (record { start = start; end = length ls + 1 }) ≡ cut ls (record { start = start; end = length ls }) ++ (x ∷ [])
+  cut_more start within =
+      let long = length-drop start ls in
+      ap (take (length ls + 1 - start)) (drop-append-le start ls (x ∷ []) within)
+      ∙ take_all (length ls + 1 - start) (drop start ls ++ (x ∷ [])) (simp length-append (omega arith))
+      ∙ ap (λ t. t ++ (x ∷ [])) (sym (take_all (length ls - start) (drop start ls) (omega arith)))
+
+  pub grounds_longer : (gs : List GroundRecord) (from n : ℕ) (d : GroundRecord) → adjoin gs from (length ls) ≡ true → suc n ≡ length gs → grounds_of (ls ++ (x ∷ [])) (set gs n (record { start = (get_or gs n d).start; end = length ls + 1 })) ≡ take n (grounds_of ls gs) ++ ((get_or (grounds_of ls gs) n [] ++ (x ∷ [])) ∷ [])
+  grounds_longer [] from n d h last = absurd (omega arith)
+  grounds_longer (g ∷ []) from zero d h last =
+      let first = first_adjoins g [] from (length ls) h in
+      let at = eqb-true g.end (length ls) first.2 in
+      ap (λ t. t ∷ []) (cut_more g.start (omega (arith, first.0, first.1)) ∙ ap (λ e. cut ls (record { start = g.start; end = e }) ++ (x ∷ [])) (sym at))
+  grounds_longer (g ∷ []) from (suc n) d h last = absurd (omega arith)
+  grounds_longer (g ∷ b ∷ gs) from zero d h last = absurd (omega arith)
+  grounds_longer (g ∷ b ∷ gs) from (suc n) d h last =
+      let first = first_adjoins g (b ∷ gs) from (length ls) h in
+      let upward = adjoin_upward (b ∷ gs) g.end (length ls) first.2 in
+      ap (λ t. t ∷ grounds_of (ls ++ (x ∷ [])) (set (b ∷ gs) n (record { start = (get_or (b ∷ gs) n d).start; end = length ls + 1 }))) (cut_same g (omega (arith, first.0, first.1)) upward)
+      ∙ ap (λ t. cut ls g ∷ t) (grounds_longer (b ∷ gs) g.end n d first.2 (omega arith))
+
+-- the lines in use are those of the grounds
+pub counted : (s : Ledger) → line_count (held s) ≡ length s.lines.items
+counted s = omega (arith, adjoin_count s.lines.items s.grounds.items 0 (length s.lines.items) s.adjoin (omega arith))
+
+-- a line behind all others, and the last record reaching to it, are a line more in the newest ground
+pub put_behind : (s : Ledger) (x : Line) (n : ℕ) (d : GroundRecord) → suc n ≡ length s.grounds.items → (older : List Ground) (newest : Ground) → held s ≡ older ++ (newest ∷ []) → grounds_of (s.lines.items ++ (x ∷ [])) (set s.grounds.items n (record { start = (get_or s.grounds.items n d).start; end = length s.lines.items + 1 })) ≡ older ++ ((newest ++ (x ∷ [])) ∷ [])
+put_behind s x n d last older newest was =
+    let long : length older ≡ n = omega (arith, last, length-map s.grounds.items (cut s.lines.items), ap length was, length-append older (newest ∷ [])) in
+    grounds_longer s.lines.items x s.grounds.items 0 n d s.adjoin last
+    ∙ ap (λ (h : List Ground). take n h ++ ((get_or h n [] ++ (x ∷ [])) ∷ [])) was
+    ∙ ap (λ (h : List Ground). h ++ ((get_or (older ++ (newest ∷ [])) n [] ++ (x ∷ [])) ∷ [])) (take_at older (newest ∷ []) n long)
+    ∙ ap (λ (h : Ground). older ++ ((h ++ (x ∷ [])) ∷ [])) (get_or_at older newest [] [] n long)
+
+-- a record that is read
+pub record_within : (s : Ledger) (k : ℕ) (r : GroundRecord) → k < length s.grounds.items → r ≡ get_or s.grounds.items k r → (get_or s.grounds.items k r ≡ r) × (r.start ≤ r.end) × (r.end ≤ length s.lines.items)
+record_within s k r within is =
+    let at = adjoin_at s.grounds.items 0 (length s.lines.items) k r s.adjoin within in
+    (sym is, rw is at.0, rw is at.1)
+
+-- the lines of the grounds, with one ground more
+pub line_count_push : (gs : List Ground) (g : Ground) → line_count (gs ++ (g ∷ [])) ≡ line_count gs + length g
+line_count_push [] g = omega arith
+line_count_push (h ∷ gs) g = omega (arith, line_count_push gs g)
+
+-- what there is space for has it
+pub room_fits : (gs : List Ground) (g : Ground) → room gs g ≡ true → line_count gs + length g ≤ most_lines
+room_fits gs g h = leb-true _ _ (and_parts (ltb (length gs) most_grounds) _ h).1

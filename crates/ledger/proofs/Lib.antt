@@ -1,5 +1,7 @@
 pub mod Nears
-pub mod Cuts
-pub mod Inserts
+pub mod Writes
+pub mod Places
 pub mod FewLines
 pub mod Drafting
+pub mod Cuts
+pub mod Told

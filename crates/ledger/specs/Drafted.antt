@@ -1,8 +1,7 @@
 -- What a draft holds. Assumes nothing.
-use Rattle.std.specs.Prelude.{take}
 use Rattle.rules.specs.Grounds.{Ground}
 use Rattle.ledger.specs.declared.draft.Draft.{Draft}
 
 -- The lines of a draft.
 abbrev pub drafted : Draft → Ground
-drafted d = take d.count d.lines
+drafted d = d.lines.items

@@ -3,3 +3,4 @@ pub mod Tables
 pub mod Model
 pub mod Places
 pub mod Drafted
+pub mod Answers

@@ -1,9 +1,10 @@
 -- Lines that the tables hold. Assumes nothing.
-use Rattle.std.specs.Prelude.{ℕ, ◌+◌, ◌*◌, ◌≤◌, Bool, true, ◌&&◌, List, [], ◌∷◌, pos, nat_le, slice_index_or, unsigned_abs}
+use Rattle.std.specs.Prelude.{ℕ, ◌+◌, ◌*◌, ◌≤◌, Bool, ◌&&◌, List, pos, nat_le, slice_index_or, unsigned_abs}
+use Rattle.std.specs.List.{list_all}
 use Rattle.rules.specs.declared.lines.Line.{Line}
 use Rattle.rules.specs.Bounds.{greatest_row, most_places, amount_reach, greatest_amount}
 
--- What stands in a table where no line is yet.
+-- What is read past the end of a list of lines.
 abbrev pub no_line : Line
 no_line = record { row = 0; level = 0; constant = pos 0 }
 
@@ -25,5 +26,4 @@ AllNear ls = (k : ℕ) → Near (slice_index_or ls k no_line)
 
 -- The same as a test.
 abbrev pub all_near : List Line → Bool
-all_near [] = true
-all_near (l ∷ ls) = near l && all_near ls
+all_near ls = list_all near ls

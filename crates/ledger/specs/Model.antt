@@ -8,7 +8,7 @@ use Rattle.ledger.specs.declared.table.Ledger.{Ledger}
 
 -- The learned grounds that a ledger holds, oldest first.
 abbrev pub held : Ledger → List Ground
-held l = grounds_of l.lines l.grounds l.ground_count
+held l = grounds_of l.lines.items l.grounds.items
 
 -- A ground is taken where there is space for it, and each of its lines is one that the tables hold.
 abbrev pub takes : List Ground → Ground → Bool

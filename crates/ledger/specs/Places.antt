@@ -1,33 +1,26 @@
 -- Where a line belongs among others. Assumes nothing.
-use Rattle.std.specs.Prelude.{ℕ, suc, ◌*◌, Bool, true, cond, ◌&&◌, ◌||◌, [], ◌∷◌}
+use Rattle.std.specs.Prelude.{◌≡◌, ℕ, suc, ◌*◌, ◌<◌, ◌≤◌, Bool, true, ◌&&◌, [], ◌∷◌, length, slice_index_or, slice_set, insert}
+use Rattle.std.specs.List.{list_all}
 use Rattle.rules.specs.declared.lines.Line.{Line}
 use Rattle.rules.specs.Bounds.{most_places, most_rows}
-use Rattle.rules.specs.Grounds.{Ground, before, same_place}
+use Rattle.rules.specs.Grounds.{Setting, Ground, before, kept, with_line}
+use Rattle.ledger.specs.Lines.{no_line}
 
 -- A ground has at most a line for each row and level that there can be.
 abbrev pub most_drafted : ℕ
 most_drafted = most_rows * suc most_places
 
--- A line comes before all of some lines.
-abbrev pub leads : Line → Ground → Bool
-leads a [] = true
-leads a (b ∷ g) = before a b && leads a g
-
 -- Each line comes before all later ones.
 abbrev pub rising : Ground → Bool
 rising [] = true
-rising (a ∷ g) = leads a g && rising g
+rising (a ∷ g) = list_all (before a) g && rising g
 
--- A line comes before the first of some lines, if there is one.
-abbrev pub leads_first : Line → Ground → Bool
-leads_first a [] = true
-leads_first a (b ∷ g) = before a b
+-- At an index stands a line with the row and level of another: there the one of the two that is kept goes.
+pub record Meets (g : Ground) (a : Line) (at : ℕ) : Type 0 where
+  pub there : at < length g
+  pub kept_there : (S : Setting) → slice_set g at (kept S a (slice_index_or g at no_line)) ≡ with_line S a g
 
--- A line comes before another, or has its row and level.
-abbrev pub stops : Line → Line → Bool
-stops a b = before a b || same_place a b
-
--- How many lines of a ground a line passes over.
-abbrev pub place_of : Line → Ground → ℕ
-place_of a [] = 0
-place_of a (b ∷ g) = cond (stops a b) 0 (suc (place_of a g))
+-- No line has the row and level of another, which goes to an index.
+pub record Between (g : Ground) (a : Line) (at : ℕ) : Type 0 where
+  pub there : at ≤ length g
+  pub put_there : (S : Setting) → insert g at a ≡ with_line S a g

@@ -1,28 +1,18 @@
 -- How the tables of a ledger are read. Assumes nothing.
-use Rattle.std.specs.Prelude.{ℕ, zero, suc, ◌+◌, ◌<◌, ◌≤◌, List, [], ◌∷◌, ◌++◌, get_or, take, drop, slice_index_or}
+use Rattle.std.specs.Prelude.{ℕ, Bool, ◌&&◌, ◌==◌, nat_le, List, [], ◌∷◌, map, slice_range}
 use Rattle.rules.specs.declared.lines.Line.{Line}
-use Rattle.rules.specs.Bounds.{most_grounds, most_lines}
 use Rattle.rules.specs.Grounds.{Ground}
 use Rattle.ledger.specs.declared.records.GroundRecord.{GroundRecord}
 
--- The record of a ground that there is not.
-abbrev pub no_record : GroundRecord
-no_record = record { start = 0; count = 0 }
-
 -- The lines of a ground, cut out of the table.
 abbrev pub cut : List Line → GroundRecord → Ground
-cut lines g = take g.count (drop g.start lines)
+cut lines g = slice_range lines g.start g.end
 
--- The grounds of so many records, oldest first.
-abbrev pub grounds_of : List Line → List GroundRecord → ℕ → List Ground
-grounds_of lines records zero = []
-grounds_of lines records (suc n) = grounds_of lines records n ++ (cut lines (slice_index_or records n no_record) ∷ [])
+-- The grounds of some records, oldest first.
+abbrev pub grounds_of : List Line → List GroundRecord → List Ground
+grounds_of lines records = map (cut lines) records
 
--- The index behind the lines of a ground.
-abbrev pub end_of : List GroundRecord → ℕ → ℕ
-end_of records k = (get_or records k no_record).start + (get_or records k no_record).count
-
--- There are no more grounds and lines than there may be, and no ground has lines past those in use.
-abbrev pub Within : List GroundRecord → ℕ → ℕ → Type 0
-Within records ground_count line_count =
-    (ground_count ≤ most_grounds) × (line_count ≤ most_lines) × ((k : ℕ) → k < ground_count → end_of records k ≤ line_count)
+-- The lines of each ground begin where those of the one before end; together they reach from one index to another.
+abbrev pub adjoin : List GroundRecord → ℕ → ℕ → Bool
+adjoin [] from to = from == to
+adjoin (g ∷ gs) from to = g.start == from && nat_le from g.end && adjoin gs g.end to

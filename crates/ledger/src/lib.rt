@@ -5,6 +5,8 @@ mod draft;
 mod near;
 mod records;
 mod table;
+mod unheld;
 
 pub use draft::Draft;
 pub use table::Ledger;
+pub use unheld::Unheld;

@@ -4,13 +4,6 @@ ghost use Rattle.ledger.specs.Lines.{near, all_near};
 
 use rules::{AMOUNT_REACH, GREATEST_AMOUNT, GREATEST_ROW, Line, MOST_PLACES};
 
-// What stands in a table where no line is yet.
-pub(crate) const NO_LINE: Line = Line {
-    row: 0,
-    level: 0,
-    constant: 0,
-};
-
 // Whether a line is one that the tables hold.
 pub(crate) fn is_near(line: Line) -> bool
     ensures { result ≡ near line }
@@ -24,10 +17,5 @@ pub(crate) fn is_near(line: Line) -> bool
 pub(crate) fn are_near(ground: &[Line]) -> bool
     ensures { result ≡ all_near ground.now }
 {
-    for line in ground {
-        if !is_near(*line) {
-            return false;
-        }
-    }
-    true
+    ground.iter().all(|line| is_near(*line))
 }

@@ -1,6 +1,6 @@
-// Where the lines of a ground lie in the table of lines.
-#[derive(Clone, Copy)]
+// Where the lines of a ground lie in the table of lines: from one index up to another.
+#[derive(Clone, Copy, Default)]
 pub struct GroundRecord {
     pub start: usize,
-    pub count: usize,
+    pub end: usize,
 }

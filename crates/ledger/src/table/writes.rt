@@ -1,16 +1,18 @@
 // How a ledger is filled and cleared.
-ghost use Rattle.std.specs.Prelude.{◌≡◌, ◌+◌, ◌<◌, ◌≤◌, true, [], ◌∷◌, ◌++◌, length, take, drop, if◌then◌else◌, slice_set};
-ghost use Rattle.rules.specs.Bounds.{most_lines};
-ghost use Rattle.ledger.specs.Lines.{Near, AllNear};
-ghost use Rattle.ledger.specs.Model.{held, takes};
+ghost use Rattle.std.specs.Prelude.{◌≡◌, ◌<◌, List, [], ◌∷◌, ◌++◌, length, is_ok, if◌then◌else◌};
+ghost use Rattle.rules.specs.Bounds.{most_grounds, most_lines};
+ghost use Rattle.rules.specs.Grounds.{Ground};
+ghost use Rattle.rules.specs.Search.{line_count};
+ghost use Rattle.ledger.specs.Lines.{Near};
+ghost use Rattle.ledger.specs.Model.{held};
+ghost use Rattle.ledger.specs.Answers.{push_answer};
 
-use crate::near::{NO_LINE, are_near};
+use crate::near::are_near;
 use crate::records::GroundRecord;
 use crate::table::Ledger;
-use rules::{Line, MOST_GROUNDS, MOST_LINES};
-
-// What stands in the table of records where no ground is yet.
-const NO_RECORD: GroundRecord = GroundRecord { start: 0, count: 0 };
+use crate::unheld::Unheld;
+use arrayvec::ArrayVec;
+use rules::Line;
 
 impl Ledger {
     // A ledger with no ground.
@@ -18,10 +20,8 @@ impl Ledger {
         ensures { held result ≡ [] }
     {
         Ledger {
-            grounds: [NO_RECORD; MOST_GROUNDS],
-            lines: [NO_LINE; MOST_LINES],
-            ground_count: 0,
-            line_count: 0,
+            grounds: ArrayVec::new(),
+            lines: ArrayVec::new(),
         }
     }
 
@@ -29,60 +29,46 @@ impl Ledger {
     pub fn clear(&mut self)
         ensures { held self.new ≡ [] }
     {
-        self.ground_count = 0;
-        self.line_count = 0;
+        self.grounds.clear();
+        self.lines.clear();
     }
 
-    // Writes one line, behind those in use.
-    fn put_line(&mut self, at: usize, line: Line)
-        requires place { (self.old.line_count ≤ at) × (at < most_lines) }
+    // Begins a ground that has no line yet.
+    fn open(&mut self)
+        requires { length (held self.old) < most_grounds }
+        ensures { held self.new ≡ held self.old ++ [] ∷ [] }
+    {
+        let at = self.lines.len();
+        self.grounds.push(GroundRecord { start: at, end: at });
+    }
+
+    // Writes one line, behind those of the newest ground.
+    fn put_line(&mut self, line: Line)
+        requires open { 0 < length (held self.old) }
+        requires room { line_count (held self.old) < most_lines }
         requires near { Near line }
-        ensures lines { self.new.lines ≡ slice_set self.old.lines at line }
-        ensures held { held self.new ≡ held self.old }
-        ensures kept { (self.new.grounds ≡ self.old.grounds) × ((self.new.ground_count ≡ self.old.ground_count) × (self.new.line_count ≡ self.old.line_count)) }
+        ensures { (older : List Ground) (newest : Ground) → held self.old ≡ older ++ newest ∷ [] → held self.new ≡ older ++ (newest ++ line ∷ []) ∷ [] }
     {
-        self.lines[at] = line;
-    }
-
-    // Writes the lines of a ground behind those in use.
-    fn put_lines(&mut self, ground: &[Line])
-        requires room { self.old.line_count + length ground.now ≤ most_lines }
-        requires near { AllNear ground.now }
-        ensures lines { take (length ground.now) (drop self.old.line_count self.new.lines) ≡ ground.now }
-        ensures held { held self.new ≡ held self.old }
-        ensures kept { (self.new.grounds ≡ self.old.grounds) × ((self.new.ground_count ≡ self.old.ground_count) × (self.new.line_count ≡ self.old.line_count)) }
-    {
-        let mut at = self.line_count;
-        for line in ground {
-            self.put_line(at, *line);
-            at += 1;
-        }
-    }
-
-    // Adds a ground that is taken behind the others.
-    fn append(&mut self, ground: &[Line])
-        requires { takes (held self.old) ground.now ≡ true }
-        ensures { held self.new ≡ held self.old ++ (ground.now ∷ []) }
-    {
-        self.put_lines(ground);
-        let record = GroundRecord {
-            start: self.line_count,
-            count: ground.len(),
-        };
-        self.grounds[self.ground_count] = record;
-        self.ground_count += 1;
-        self.line_count += record.count;
+        let newest = self.grounds.len() - 1;
+        self.lines.push(line);
+        self.grounds[newest].end = self.lines.len();
     }
 
     // Adds a ground behind the others; nothing is altered where there is no space for it, or a line is none that the tables hold.
-    pub fn push(&mut self, ground: &[Line]) -> bool
-        ensures told { result ≡ takes (held self.old) ground.now }
-        ensures held { held self.new ≡ (if result then held self.old ++ (ground.now ∷ []) else held self.old) }
+    pub fn push(&mut self, ground: &[Line]) -> Result<(), Unheld>
+        ensures told { result ≡ push_answer (held self.old) ground.now }
+        ensures held { held self.new ≡ (if is_ok result then held self.old ++ ground.now ∷ [] else held self.old) }
     {
-        if !self.has_room(ground) || !are_near(ground) {
-            return false;
+        if !self.has_room(ground) {
+            return Err(Unheld::NoSpace);
         }
-        self.append(ground);
-        true
+        if !are_near(ground) {
+            return Err(Unheld::FarLine);
+        }
+        self.open();
+        for line in ground {
+            self.put_line(*line);
+        }
+        Ok(())
     }
 }

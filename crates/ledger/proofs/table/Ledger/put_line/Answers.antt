@@ -1,16 +1,27 @@
-use Rattle.std.proofs.Common.{length, refl, ap, ◌∙◌, arith, length-set}
-use Rattle.rules.specs.Search.{line_count}
-use Rattle.ledger.proofs.Nears.{near_set}
-use Rattle.ledger.proofs.Cuts.{grounds_put}
+use Rattle.std.proofs.Common.{◌≡◌, suc, ◌-◌, length, arith}
+use Rattle.std.proofs.lemmas.List.{length-map}
+use Rattle.ledger.specs.Tables.{cut}
+use Rattle.ledger.proofs.Nears.{near_push}
+use Rattle.ledger.proofs.Cuts.{counted, adjoin_longer, put_behind}
+use Rattle.ledger.proofs.Writes.{written}
 use Rattle.ledger.proofs.table.Ledger.put_line.Goals as goal
+
+pub push-requires : goal.push-requires
+push-requires c = let lines = counted c.args.self.now in (omega arith, omega arith)
 
 pub invariant_of-self : goal.invariant_of-self
 invariant_of-self c =
     let s = c.args.self.now in
-    let same = grounds_put s.lines s.grounds s.ground_count c.args.at c.args.line (λ k h. omega (arith, s.within.2 k h)) in
-    record { within = s.within; listed = ap length same ∙ s.listed; counted = ap line_count same ∙ s.counted; near = near_set s.lines c.args.at c.args.line c.requires.near s.near; long = simp length-set s.long }
+    let n = c.len-newest.result - 1 in
+    let last : suc n ≡ length s.grounds.items = omega (arith, c.requires.open, c.len-newest.ensures.value, length-map s.grounds.items (cut s.lines.items)) in
+    record {
+      adjoin = rw (written s.grounds c.deref_mut.result.now n _ c.deref_mut.ensures.value, ← c.len.ensures.value, c.deref_mut.ensures.value) (adjoin_longer s.grounds.items 0 (length s.lines.items) n c.len.result _ s.adjoin last (omega (arith, c.len.ensures.value, c.push.ensures.len)));
+      near = rw c.push.ensures.items (near_push s.lines.items c.args.line s.near c.requires.near);
+    }
 
 pub returns : goal.returns
 returns c =
     let s = c.args.self.now in
-    record { lines = refl; held = grounds_put s.lines s.grounds s.ground_count c.args.at c.args.line (λ k h. omega (arith, s.within.2 k h)); kept = (refl, (refl, refl)) }
+    let n = c.len-newest.result - 1 in
+    let last : suc n ≡ length s.grounds.items = omega (arith, c.requires.open, c.len-newest.ensures.value, length-map s.grounds.items (cut s.lines.items)) in
+    λ older newest was. rw (written s.grounds c.deref_mut.result.now n _ c.deref_mut.ensures.value, c.deref_mut.ensures.value, c.len.ensures.value, c.push.ensures.len, c.push.ensures.items) (put_behind s c.args.line n _ last older newest was)

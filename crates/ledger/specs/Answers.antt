@@ -1,0 +1,21 @@
+-- What a draft and a ledger answer to what is put in. Assumes nothing.
+use Rattle.std.specs.Prelude.{ℕ, List, Result, Ok, Err, if◌then◌else◌, codes}
+use Rattle.rules.specs.declared.lines.Line.{Line}
+use Rattle.rules.specs.Grounds.{Ground}
+use Rattle.rules.specs.Search.{room}
+use Rattle.ledger.specs.Lines.{near, all_near}
+use Rattle.ledger.specs.declared.unheld.Unheld.{Unheld}
+use Rattle.ledger.specs.declared.unheld.Unheld.TheVariants.{NoSpace, FarLine}
+
+-- A draft takes the lines that the tables hold.
+abbrev pub put_answer : Line → Result (Unit {0}) Unheld
+put_answer l = if near l then Ok tt else Err FarLine
+
+-- A ledger takes a ground that has its space, if the tables hold each of its lines.
+abbrev pub push_answer : List Ground → Ground → Result (Unit {0}) Unheld
+push_answer learned g = if room learned g then (if all_near g then Ok tt else Err FarLine) else Err NoSpace
+
+-- What stands in a message.
+abbrev pub unheld_text : Unheld → List ℕ
+unheld_text NoSpace = codes "the ledger has no space for the ground"
+unheld_text FarLine = codes "a line that no table holds"
