@@ -1,5 +1,5 @@
 -- What the tables of a grid hold. Assumes nothing.
-use Rattle.std.proofs.Common.{◌≡◌, ℕ, ◌-◌, ◌<◌, ◌≤◌, Bool, true, false, cond, ◌&&◌, eqb, leb, List, length, get_or, set, replicate, ℤ, pos, nat_abs, sym, refl, ap, ◌∙◌, ⊎_elim, arith, length-set}
+use Rattle.std.proofs.Common.{◌≡◌, ℕ, zero, suc, ◌-◌, ◌<◌, ◌≤◌, Bool, true, false, cond, ◌&&◌, eqb, leb, List, [], ◌∷◌, length, get_or, set, replicate, ℤ, pos, nat_abs, sym, refl, ap, ◌∙◌, ⊎_elim, arith, length-set}
 use mathlib.Core.Path.{fun_ext}
 use Rattle.std.proofs.lemmas.List.{get_or-set_same, get_or-set_other, get_or-replicate}
 use Rattle.std.proofs.lemmas.Bool.{cases_eq, eq-eqb, ne_eqb, cond-true, cond-false, and_from, and_parts, and_left, and_right, both_ways, le-leb, leb-true}
@@ -9,11 +9,23 @@ use Rattle.rules.specs.declared.kinds.Kind.{Kind}
 use Rattle.rules.specs.declared.kinds.Kind.TheVariants.{SumAtMost}
 use Rattle.rules.specs.Joinings.{Joining, joining}
 use Rattle.rules.specs.Grounds.{Setting}
-use Rattle.ledger.proofs.Nears.{set_either, replicate_either}
 use Rattle.search.specs.Tables.{no_amounts, no_position, count_at, slot, has_version, amount_at, Counted, Long, Wide, Near, put_row, put_version, put_slot}
 use Rattle.search.specs.Settings.{one_position}
 use Rattle.search.specs.declared.position.Amounts.{Amounts}
 use Rattle.search.specs.declared.position.Position.{Position}
+
+-- what holds of an element that is written, and of those that were there, holds of all; so of a list that is one element over and over
+set_either : {X : Type 0} (P : X → Type 0) (xs : List X) (i j : ℕ) (a d : X) → P a → P (get_or xs j d) → P (get_or (set xs i a) j d)
+set_either P [] i j a d new old = old
+set_either P (x ∷ xs) zero zero a d new old = new
+set_either P (x ∷ xs) zero (suc j) a d new old = old
+set_either P (x ∷ xs) (suc i) zero a d new old = old
+set_either P (x ∷ xs) (suc i) (suc j) a d new old = set_either P xs i j a d new old
+
+replicate_either : {X : Type 0} (P : X → Type 0) (n k : ℕ) (x d : X) → P x → P d → P (get_or (replicate n x) k d)
+replicate_either P zero k x d new none = none
+replicate_either P (suc n) zero x d new none = new
+replicate_either P (suc n) (suc k) x d new none = replicate_either P n k x d new none
 
 -- what the tables keep, at one position
 abbrev GoodPosition : Position → Type 0

@@ -5,8 +5,19 @@ ghost use Rattle.search.specs.Settings.{setting, blank_setting, put_kind, put_ve
 
 use crate::grid::Grid;
 use crate::pick::Pick;
-use crate::position::Position;
+use crate::position::{Amounts, Position, VERSIONS};
 use rules::{GREATEST_AMOUNT, GREATEST_ROW, Kind, MOST_PLACES, MOST_ROWS, MOST_VERSIONS, Refusal};
+
+// What stands in the table for a version that no amount is set for; a constant, of which the proof sees each number.
+const NO_AMOUNTS: Amounts = Amounts {
+    rows: [0; MOST_ROWS],
+};
+
+// What stands in the table for a position that nothing is set for.
+const NO_POSITION: Position = Position {
+    count: 0,
+    versions: [NO_AMOUNTS; VERSIONS],
+};
 
 impl Grid {
     // A grid with no versions and no amounts, every row being added up.
@@ -19,7 +30,7 @@ impl Grid {
             places,
             last_row,
             kinds: [Kind::SumAtMost; MOST_ROWS],
-            positions: [Position::default(); MOST_PLACES],
+            positions: [NO_POSITION; MOST_PLACES],
         }
     }
 

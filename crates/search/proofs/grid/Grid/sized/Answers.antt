@@ -1,4 +1,4 @@
-use Rattle.std.proofs.Common.{refl, arith}
+use Rattle.std.proofs.Common.{refl}
 use Rattle.search.proofs.Grids.{good_blank, blank_counts, blank_amount, blank_joining, same_setting}
 use Rattle.search.proofs.grid.Grid.sized.Goals as goal
 
