@@ -5,7 +5,7 @@ use Rattle.rules.specs.Sheets.{Limits}
 use Rattle.rules.specs.Grounds.{Setting, Part, Ground}
 use Rattle.rules.specs.Search.{State, stopped, lowest_free}
 use Rattle.search.specs.States.{chosen_from, job_limits, force, grounds, state_of}
-use Rattle.search.specs.Trials.{tried, holds, first_at, above}
+use Rattle.search.specs.Trials.{tried, holds, first_at, above_place}
 use Rattle.search.specs.declared.search.Search.{Search}
 use Rattle.search.specs.declared.search.place.Place.{Place}
 use Rattle.search.specs.declared.search.trial.Trial.{Trial}
@@ -39,7 +39,7 @@ module _ (S : Setting) (L : Limits) (σ : State) (t : Part) where
   found_free v k some le before free = stays v v k (at_version v false some before free) le
 
 -- a version tried at a place, with grounds from an index on still to be looked at
-module _ (p : Place) (v : ℕ) (t : Trial) (same : t.search.now ≡ p.search.now) (is : tried t ≡ v ∷ above p) (i : ℕ) (so_far : first_at t (grounds t.search.now) ≡ first_at t (drop i (grounds t.search.now))) where
+module _ (p : Place) (v : ℕ) (t : Trial) (same : t.search.now ≡ p.search.now) (is : tried t ≡ v ∷ above_place p) (i : ℕ) (so_far : first_at t (grounds t.search.now) ≡ first_at t (drop i (grounds t.search.now))) where
   abbrev S : Setting
   S = chosen_from p.search.now
 
@@ -49,8 +49,8 @@ module _ (p : Place) (v : ℕ) (t : Trial) (same : t.search.now ≡ p.search.now
   abbrev σ : State
   σ = state_of p.search.now
 
-  stopped_is : (o : Option Ground) → first_at t (drop i (grounds t.search.now)) ≡ o → stopped S L σ (v ∷ above p) ≡ is_some o
-  stopped_is o e = ap (λ (s : Search). stopped (chosen_from s) (job_limits s) (state_of s) (v ∷ above p)) (sym same) ∙ ap (stopped (chosen_from t.search.now) (job_limits t.search.now) (state_of t.search.now)) (sym is) ∙ ap is_some (so_far ∙ e)
+  stopped_is : (o : Option Ground) → first_at t (drop i (grounds t.search.now)) ≡ o → stopped S L σ (v ∷ above_place p) ≡ is_some o
+  stopped_is o e = ap (λ (s : Search). stopped (chosen_from s) (job_limits s) (state_of s) (v ∷ above_place p)) (sym same) ∙ ap (stopped (chosen_from t.search.now) (job_limits t.search.now) (state_of t.search.now)) (sym is) ∙ ap is_some (so_far ∙ e)
 
   counted : length (grounds p.search.now) ≡ length (grounds t.search.now)
   counted = ap (λ (s : Search). length (grounds s)) (sym same)
@@ -58,9 +58,9 @@ module _ (p : Place) (v : ℕ) (t : Trial) (same : t.search.now ≡ p.search.now
   pub trial_more : i < length (grounds p.search.now) → false ≡ holds t (get_or (grounds t.search.now) i []) → first_at t (grounds t.search.now) ≡ first_at t (drop (i + 1) (grounds t.search.now))
   trial_more there falls = so_far ∙ first_more (chosen_from t.search.now) (force t.search.now) (tried t) (grounds t.search.now) i (omega (arith, counted)) (sym falls)
 
-  module _ (some : 1 ≤ v) (before : lowest_free S L σ (above p) (v - 1) ≡ None) where
-    pub trial_stopped : i < length (grounds p.search.now) → true ≡ holds t (get_or (grounds t.search.now) i []) → lowest_free S L σ (above p) v ≡ None
-    trial_stopped there on = at_version S L σ (above p) v true some before (stopped_is _ (first_found (chosen_from t.search.now) (force t.search.now) (tried t) (grounds t.search.now) i (omega (arith, counted)) (sym on)))
+  module _ (some : 1 ≤ v) (before : lowest_free S L σ (above_place p) (v - 1) ≡ None) where
+    pub trial_stopped : i < length (grounds p.search.now) → true ≡ holds t (get_or (grounds t.search.now) i []) → lowest_free S L σ (above_place p) v ≡ None
+    trial_stopped there on = at_version S L σ (above_place p) v true some before (stopped_is _ (first_found (chosen_from t.search.now) (force t.search.now) (tried t) (grounds t.search.now) i (omega (arith, counted)) (sym on)))
 
-    pub trial_free : length (grounds p.search.now) ≤ i → (k : ℕ) → v ≤ k → lowest_free S L σ (above p) k ≡ Some v
-    trial_free past k le = found_free S L σ (above p) v k some le before (stopped_is _ (first_none (chosen_from t.search.now) (force t.search.now) (tried t) (grounds t.search.now) i (omega (arith, counted))))
+    pub trial_free : length (grounds p.search.now) ≤ i → (k : ℕ) → v ≤ k → lowest_free S L σ (above_place p) k ≡ Some v
+    trial_free past k le = found_free S L σ (above_place p) v k some le before (stopped_is _ (first_none (chosen_from t.search.now) (force t.search.now) (tried t) (grounds t.search.now) i (omega (arith, counted))))

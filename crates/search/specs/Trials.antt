@@ -2,8 +2,7 @@
 use Rattle.std.specs.Prelude.{Bool, List, Option}
 use Rattle.rules.specs.declared.lines.Line.{Line}
 use Rattle.rules.specs.Grounds.{Part, Ground, line_stands, stands, first_standing}
-use Rattle.search.specs.States as states
-use Rattle.search.specs.States.{chosen_from, force, part_in}
+use Rattle.search.specs.States.{chosen_from, force, part_in, above}
 use Rattle.search.specs.declared.search.place.Place.{Place}
 use Rattle.search.specs.declared.search.trial.Trial.{Trial}
 
@@ -24,5 +23,5 @@ abbrev pub first_at : Trial → List Ground → Option Ground
 first_at t gs = first_standing (chosen_from t.search.now) (force t.search.now) gs (tried t)
 
 -- The part-choice of the positions above a place.
-abbrev pub above : Place → Part
-above p = states.above p.search.now p.index
+abbrev pub above_place : Place → Part
+above_place p = above p.search.now p.index

@@ -6,7 +6,7 @@ use rules::{Line, MOST_ROWS};
 
 // The lines of a closing ground: it lies above all positions, and so has no row twice.
 // A verdict is copied, so they stand in an array with their count.
-#[derive(Clone, Copy)]
+#[derive(Clone, Copy, Debug, PartialEq, Eq)]
 pub struct Closing {
     lines: [Line; MOST_ROWS],
     count: usize,

@@ -18,7 +18,7 @@ pub struct Ran {
 }
 
 // What a search has found.
-#[derive(Clone, Copy)]
+#[derive(Clone, Copy, Debug, PartialEq, Eq)]
 pub enum Finding {
     // It has ended: the least choice, and the closing ground.
     Least(Part, Closing),
@@ -31,7 +31,7 @@ pub enum Finding {
 }
 
 // What it has found, the steps made, and how many learned grounds there are.
-#[derive(Clone, Copy)]
+#[derive(Clone, Copy, Debug, PartialEq, Eq)]
 pub struct Verdict {
     pub finding: Finding,
     pub steps: u32,

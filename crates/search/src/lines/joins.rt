@@ -1,12 +1,11 @@
 // How a line is joined with the amounts of its row.
-ghost use Rattle.std.specs.Prelude.{◌≡◌, ◌+◌, ◌≤◌, drop, unsigned_abs};
-ghost use Rattle.rules.specs.Bounds.{most_places, greatest_row, greatest_amount};
-ghost use Rattle.rules.specs.Grounds.{with_amount, joined_above, with_line};
+ghost use Rattle.std.specs.Prelude.{◌≡◌, ◌+◌, ◌≤◌, unsigned_abs};
+ghost use Rattle.rules.specs.Bounds.{most_places, greatest_amount};
+ghost use Rattle.rules.specs.Grounds.{with_amount, with_line};
 ghost use Rattle.ledger.specs.Drafted.{drafted};
 ghost use Rattle.ledger.specs.Lines.{Near, reach};
-ghost use Rattle.search.specs.Parts.{versions_of};
 ghost use Rattle.search.specs.Settings.{setting};
-ghost use Rattle.search.specs.States.{moved_at};
+ghost use Rattle.search.specs.States.{comes_to, breaks, moved_with};
 
 use crate::grid::Grid;
 use crate::lines::LineIn;
@@ -55,7 +54,7 @@ impl<'g, J: Joining> LineIn<'g, J> {
     // The constant, joined with the amounts of the row at the positions above the level; by index from the top down, which versions and
     // amounts go by, with the constant within reach at each.
     pub(crate) fn joined_above(&self, part: &Part) -> i64
-        ensures is { let l = self.now.line in result ≡ joined_above (setting self.now.grid.now) l.row l.level l.constant (drop l.level (versions_of self.now.grid.now.places part.now)) }
+        ensures is { result ≡ comes_to self.now.grid.now part.now self.now.line }
         ensures near { unsigned_abs result ≤ reach (most_places + most_places) }
     {
         let places = self.grid.places();
@@ -70,14 +69,14 @@ impl<'g, J: Joining> LineIn<'g, J> {
 
     // Whether the constant, so joined, is worse than a limit.
     pub(crate) fn breaks(&self, part: &Part, limit: i64) -> bool
-        ensures { let l = self.now.line in result ≡ ((setting self.now.grid.now).joining l.row).worse (joined_above (setting self.now.grid.now) l.row l.level l.constant (drop l.level (versions_of self.now.grid.now.places part.now))) limit }
+        ensures { result ≡ breaks self.now.grid.now part.now self.now.line limit }
     {
         J::is_worse(self.joined_above(part), limit)
     }
 
     // The line as it is learned from a ground that stands with a picked version.
     fn moved(&self, pick: Pick) -> Line
-        ensures is { result ≡ moved_at (setting self.now.grid.now) (pick.index + 1) pick.version self.now.line }
+        ensures is { result ≡ moved_with (setting self.now.grid.now) pick self.now.line }
         ensures near { Near result }
     {
         let line = self.line;
@@ -93,7 +92,7 @@ impl<'g, J: Joining> LineIn<'g, J> {
 
     // Adds the line to a draft as it is learned.
     pub(crate) fn put_moved(&self, draft: &mut Draft, pick: Pick)
-        ensures { drafted draft.new ≡ with_line (setting self.now.grid.now) (moved_at (setting self.now.grid.now) (pick.index + 1) pick.version self.now.line) (drafted draft.old) }
+        ensures { let S = setting self.now.grid.now in drafted draft.new ≡ with_line S (moved_with S pick self.now.line) (drafted draft.old) }
     {
         let _ = draft.put::<J>(self.moved(pick));
     }

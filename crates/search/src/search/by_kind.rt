@@ -1,11 +1,10 @@
 // What is done with one line, by the kind of its row: here a kind becomes its joining.
-ghost use Rattle.std.specs.Prelude.{◌≡◌, ◌+◌, ◌≤◌, [], ◌∷◌, drop};
+ghost use Rattle.std.specs.Prelude.{◌≡◌, ◌≤◌, [], ◌∷◌};
 ghost use Rattle.rules.specs.Bounds.{greatest_row};
-ghost use Rattle.rules.specs.Grounds.{joined_above, of_row, with_line};
+ghost use Rattle.rules.specs.Grounds.{of_row, with_line};
 ghost use Rattle.ledger.specs.Drafted.{drafted};
 ghost use Rattle.ledger.specs.Lines.{Near};
-ghost use Rattle.search.specs.Parts.{versions_of};
-ghost use Rattle.search.specs.States.{chosen_from, force, moved_at};
+ghost use Rattle.search.specs.States.{chosen_from, force, breaks, moved_with};
 
 use crate::lines::LineIn;
 use crate::part::Part;
@@ -15,7 +14,7 @@ use joining::{GreatestAtMost, SumAtLeast, SumAtMost};
 use ledger::Draft;
 use rules::{Kind, Line};
 
-// A call at the joining of a kind.
+// A call at the joining of a kind. A macro, since no value stands for a type: so kinds become types here alone.
 macro_rules! at_joining {
     ($kind:expr, $of:ident $($call:tt)*) => {
         match $kind {
@@ -51,7 +50,7 @@ impl Search {
     // Whether the constant of a line, joined with the amounts above its level, is worse than the limit of its row.
     pub(super) fn breaks_limit(&self, part: &Part, line: Line) -> bool
         requires { Near line }
-        ensures { result ≡ ((chosen_from self.now).joining line.row).worse (joined_above (chosen_from self.now) line.row line.level line.constant (drop line.level (versions_of self.now.grid.places part.now))) (force self.now line.row) }
+        ensures { result ≡ breaks self.now.grid part.now line (force self.now line.row) }
     {
         let limit = self.limit(line.row);
         at_joining!(
@@ -63,7 +62,7 @@ impl Search {
     // Adds a line to a draft as it is learned from a ground that stands with a picked version.
     pub(super) fn put_line(&self, draft: &mut Draft, pick: Pick, line: Line)
         requires { Near line }
-        ensures { drafted draft.new ≡ with_line (chosen_from self.now) (moved_at (chosen_from self.now) (pick.index + 1) pick.version line) (drafted draft.old) }
+        ensures { let S = chosen_from self.now in drafted draft.new ≡ with_line S (moved_with S pick line) (drafted draft.old) }
     {
         at_joining!(
             self.grid.kind(line.row),

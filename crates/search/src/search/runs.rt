@@ -99,7 +99,7 @@ impl Search {
         ensures kept { SameJob self.new self.old }
         ensures shaped { learned_shaped self.old ≡ true → learned_shaped self.new ≡ true }
     {
-        if u64::from(self.steps) + u64::from(budget) > u64::from(MOST_STEPS) {
+        if self.steps.saturating_add(budget) > MOST_STEPS {
             return Err(Refusal::BudgetBeyond);
         }
         Ok(self.run_on(budget))

@@ -1,7 +1,7 @@
 // Which grounds stand.
-ghost use Rattle.std.specs.Prelude.{◌≡◌, [], length, slice_index_or};
+ghost use Rattle.std.specs.Prelude.{◌≡◌, ◌<◌, [], length, IfSome, slice_index_or};
 ghost use Rattle.ledger.specs.Lines.{Near, AllNear};
-ghost use Rattle.search.specs.States.{grounds, picked, IndexBelow};
+ghost use Rattle.search.specs.States.{grounds, picked};
 ghost use Rattle.search.specs.Trials.{line_holds, holds, first_at};
 
 use crate::search::trial::Trial;
@@ -10,7 +10,7 @@ use rules::Line;
 impl Trial<'_> {
     // A line stands when its level is at least the number of open places, and what it comes to is worse than the limit of its row.
     fn line_stands(&self, line: Line) -> bool
-        requires near { Near line }
+        requires { Near line }
         ensures { result ≡ line_holds self.now line }
     {
         self.part.opened() <= usize::from(line.level) && self.search.breaks_limit(&self.part, line)
@@ -18,7 +18,7 @@ impl Trial<'_> {
 
     // A ground stands when each of its lines does; a plain loop, left at the first that doesn't.
     fn lines_stand(&self, ground: &[Line]) -> bool
-        requires near { AllNear ground.now }
+        requires { AllNear ground.now }
         ensures { result ≡ holds self.now ground.now }
     {
         for line in ground {
@@ -39,7 +39,7 @@ impl Trial<'_> {
     // The first ground that stands, by its index.
     pub(crate) fn first_standing(&self) -> Option<usize>
         ensures first { picked (grounds self.now.search.now) result ≡ first_at self.now (grounds self.now.search.now) }
-        ensures there { IndexBelow (length (grounds self.now.search.now)) result }
+        ensures there { IfSome result (λ i. i < length (grounds self.now.search.now)) }
     {
         (0..self.search.ground_count()).find(|index| self.ground_stands(*index))
     }

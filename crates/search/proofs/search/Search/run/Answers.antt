@@ -8,8 +8,8 @@ use Rattle.search.proofs.GroundShapes.{still_shaped}
 use Rattle.search.proofs.Running.{run_beyond, run_within}
 use Rattle.search.proofs.search.Search.run.Goals as goal
 
-pub returns-then-from : goal.returns-then-from
-returns-then-from c =
+pub returns-then-saturating_add-gt-MOST_STEPS : goal.returns-then-saturating_add-gt-MOST_STEPS
+returns-then-saturating_add-gt-MOST_STEPS c =
     let s = c.args.self.now in
     let is = run_beyond (chosen_from s) (job_limits s) (state_of s) c.args.budget (omega arith) in
     record { answer = sym (ap (λ (r : Reply). r.answer) is); job = sym (ap (λ (r : Reply). r.job) is); kept = (refl, refl); shaped = λ h. h }
