@@ -8,6 +8,13 @@ use joining::Joining;
 use rules::Line;
 use std::marker::PhantomData;
 
+// A line that the tables can hold.
+#[derive(Clone, Copy)]
+pub(crate) struct NearLine {
+    pub(crate) line: Line,
+    ghost near: { Near line },
+}
+
 // A line of a ground over a grid, in which its row has the joining J.
 #[derive(Drop)]
 pub(crate) struct LineIn<'g, J: Joining> {

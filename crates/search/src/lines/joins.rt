@@ -8,7 +8,7 @@ ghost use Rattle.search.specs.Settings.{setting};
 ghost use Rattle.search.specs.States.{comes_to, breaks, moved_with};
 
 use crate::grid::Grid;
-use crate::lines::LineIn;
+use crate::lines::{LineIn, NearLine};
 use crate::part::Part;
 use crate::pick::Pick;
 use joining::Joining;
@@ -18,15 +18,14 @@ use std::marker::PhantomData;
 
 impl<'g, J: Joining> LineIn<'g, J> {
     // A line of a row that has the joining.
-    pub(crate) fn new(grid: &'g Grid, line: Line) -> LineIn<'g, J>
-        requires near { Near line }
-        requires joined { (setting grid.now).joining line.row ≡ J.rule }
+    pub(crate) fn new(grid: &'g Grid, near: NearLine) -> LineIn<'g, J>
+        requires { (setting grid.now).joining near.line.row ≡ J.rule }
         ensures grid { result.grid.now ≡ grid.now }
-        ensures line { result.line ≡ line }
+        ensures line { result.line ≡ near.line }
     {
         LineIn {
             grid,
-            line,
+            line: near.line,
             joining: PhantomData,
         }
     }

@@ -41,7 +41,7 @@ impl Search {
     {
         let last = self.grid.last_row();
         if index <= last {
-            Ground::Starting([self.starting_line(index as u8)])
+            Ground::Starting([self.starting_line(index as u8).line])
         } else {
             Ground::Learned(self.ledger.ground(index - last - 1))
         }

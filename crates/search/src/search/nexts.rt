@@ -7,7 +7,7 @@ ghost use Rattle.ledger.specs.Lines.{reach};
 ghost use Rattle.search.specs.States.{chosen_from, job_limits, part_in, state_of};
 ghost use Rattle.search.specs.Nexts.{outcome_of, Ready};
 
-use crate::lines::LineIn;
+use crate::lines::{LineIn, NearLine};
 use crate::next::{Next, Step};
 use crate::search::Search;
 use crate::search::place::Place;
@@ -22,7 +22,7 @@ impl Search {
         ensures near { unsigned_abs result ≤ reach (most_places + most_places) }
     {
         let line = LineIn::<SumAtMost>::starting(0);
-        LineIn::<SumAtMost>::new(&self.grid, line).joined_above(&self.part)
+        LineIn::<SumAtMost>::new(&self.grid, NearLine { line }).joined_above(&self.part)
     }
 
     // What comes next: with a ground standing, at the lowest place that is set, if one is; else the choice is the best, or the last open

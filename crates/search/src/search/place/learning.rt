@@ -7,6 +7,7 @@ ghost use Rattle.ledger.specs.Lines.{AllNear};
 ghost use Rattle.search.specs.States.{chosen_from, job_limits, state_of, moved_at, moved_with, pick_of};
 ghost use Rattle.search.specs.Trials.{above_place};
 
+use crate::lines::NearLine;
 use crate::pick::Pick;
 use crate::search::place::Place;
 use ledger::Draft;
@@ -19,7 +20,7 @@ impl Place<'_> {
         ensures { let S = chosen_from self.now.search.now in drafted draft.new ≡ with_lines S (map (moved_with S pick) ground.now) (drafted draft.old) }
     {
         for line in ground {
-            self.search.put_line(draft, pick, *line);
+            self.search.put_line(draft, pick, NearLine { line: *line });
         }
     }
 

@@ -1,19 +1,20 @@
 // Which grounds stand.
 ghost use Rattle.std.specs.Prelude.{◌≡◌, ◌<◌, [], length, IfSome, slice_index_or};
-ghost use Rattle.ledger.specs.Lines.{Near, AllNear};
+ghost use Rattle.ledger.specs.Lines.{AllNear};
 ghost use Rattle.search.specs.States.{grounds, picked};
 ghost use Rattle.search.specs.Trials.{line_holds, holds, first_at};
 
+use crate::lines::NearLine;
 use crate::search::trial::Trial;
 use rules::Line;
 
 impl Trial<'_> {
     // A line stands when its level is at least the number of open places, and what it comes to is worse than the limit of its row.
-    fn line_stands(&self, line: Line) -> bool
-        requires { Near line }
-        ensures { result ≡ line_holds self.now line }
+    fn line_stands(&self, near: NearLine) -> bool
+        ensures { result ≡ line_holds self.now near.line }
     {
-        self.part.opened() <= usize::from(line.level) && self.search.breaks_limit(&self.part, line)
+        self.part.opened() <= usize::from(near.line.level)
+            && self.search.breaks_limit(&self.part, near)
     }
 
     // A ground stands when each of its lines does; a plain loop, left at the first that doesn't.
@@ -22,7 +23,7 @@ impl Trial<'_> {
         ensures { result ≡ holds self.now ground.now }
     {
         for line in ground {
-            if !self.line_stands(*line) {
+            if !self.line_stands(NearLine { line: *line }) {
                 return false;
             }
         }

@@ -8,7 +8,7 @@ pub returns-then-index-last-clause-lines : goal.returns-then-index-last-clause-l
 returns-then-index-last-clause-lines c =
     let s = c.args.self.now in
     let low : c.args.index ≤ s.grid.last_row = omega (arith, c.last_row-last.ensures.is) in
-    c.starting_line.ensures.is ∙ ledger_start (chosen_from s) (held s.ledger) c.args.index low
+    c.starting_line.ensures ∙ ledger_start (chosen_from s) (held s.ledger) c.args.index low
 
 pub returns-else-index-last-clause-lines : goal.returns-else-index-last-clause-lines
 returns-else-index-last-clause-lines c =

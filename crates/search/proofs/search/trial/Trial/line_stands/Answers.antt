@@ -9,4 +9,4 @@ pub returns-then-opened-from : goal.returns-then-opened-from
 returns-then-opened-from c =
     let s = c.args.self.now.search.now in
     let p = c.args.self.now.part in
-    c.breaks_limit.ensures ∙ sym (line_on (chosen_from s) (versions_of s.grid.places p) (whole_of s p) (force s) c.args.line p.opened (omega (arith, whole_of s p)) (omega (arith, c.opened.ensures, c.from.ensures)))
+    c.breaks_limit.ensures ∙ sym (line_on (chosen_from s) (versions_of s.grid.places p) (whole_of s p) (force s) c.args.near.line p.opened (omega (arith, whole_of s p)) (omega (arith, c.opened.ensures, c.from.ensures)))
