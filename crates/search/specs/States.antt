@@ -1,5 +1,6 @@
 -- A search of the rules in its tables. Assumes nothing.
-use Rattle.std.specs.Prelude.{◌≡◌, ℕ, suc, ◌+◌, Bool, cond, List, [], ◌∷◌, drop, ℤ, pos, Some, None, Option, ◌==◌, slice_index_or}
+use Rattle.std.specs.Prelude.{◌≡◌, ℕ, suc, ◌+◌, Bool, cond, List, [], ◌∷◌, drop, ℤ, pos, Option, ◌==◌, slice_index_or}
+use Rattle.std.specs.Option.{option_map}
 use Rattle.rules.specs.declared.lines.Line.{Line}
 use Rattle.rules.specs.Sheets.{Limits}
 use Rattle.rules.specs.Choices.{capped}
@@ -43,8 +44,7 @@ above s index = parts.above s.grid.places s.part index
 
 -- The best choice, if there is one, with so many places.
 abbrev pub best_of : ℕ → Option declared.Part.Part → Option Part
-best_of places None = None
-best_of places (Some p) = Some (parts.part_of places p)
+best_of places best = option_map (parts.part_of places) best
 
 -- The best choice of a search, if there is one.
 abbrev pub best_in : Search → Option declared.Part.Part → Option Part
@@ -56,8 +56,7 @@ state_of s = record { part = part_in s s.part; best = best_in s s.best; cap = s.
 
 -- The ground at an index of a list, if an index was found.
 abbrev pub picked : List Ground → Option ℕ → Option Ground
-picked gs None = None
-picked gs (Some i) = Some (slice_index_or gs i [])
+picked gs found = option_map (λ i. slice_index_or gs i []) found
 
 -- What a line comes to at a part-choice: its constant, joined with the amounts of its row at the positions above its level.
 abbrev pub comes_to : Grid → declared.Part.Part → Line → ℤ
