@@ -1,6 +1,6 @@
 -- What a write to the tables does to the grounds. Assumes nothing.
 use Rattle.std.proofs.Common.{◌≡◌, ℕ, zero, suc, ◌+◌, ◌-◌, ◌<◌, ◌≤◌, true, eqb, leb, ltb, ◌&&◌, List, [], ◌∷◌, ◌++◌, length, get_or, set, take, drop, sym, refl, ap, ◌∙◌, arith, length-append, length-drop}
-use Rattle.std.proofs.lemmas.List.{take_all, take_at, get_or_at, take-append-le, drop-append-le, length-map}
+use Rattle.std.proofs.lemmas.List.{take_all, drop_all, take-append-le, drop-append-le, set_split, set-get_or, map_push, same_from_push, length-map}
 use Rattle.std.proofs.lemmas.List.Edits.{length-between}
 use Rattle.std.proofs.lemmas.Bool.{and_parts, and_from, leb-true, le-leb, eqb-true, eq-eqb}
 use Rattle.rules.specs.declared.lines.Line.{Line}
@@ -38,13 +38,13 @@ adjoin_upward [] from to h = omega (arith, eqb-true from to h)
 adjoin_upward (g ∷ gs) from to h = let first = first_adjoins g gs from to h in omega (arith, first.1, adjoin_upward gs g.end to first.2)
 
 -- each ground lies within the table
-pub adjoin_at : (gs : List GroundRecord) (from to k : ℕ) (d : GroundRecord) → adjoin gs from to ≡ true → k < length gs → ((get_or gs k d).start ≤ (get_or gs k d).end) × ((get_or gs k d).end ≤ to)
+adjoin_at : (gs : List GroundRecord) (from to k : ℕ) (d : GroundRecord) → adjoin gs from to ≡ true → k < length gs → ((get_or gs k d).start ≤ (get_or gs k d).end) × ((get_or gs k d).end ≤ to)
 adjoin_at [] from to k d h within = absurd (omega arith)
 adjoin_at (g ∷ gs) from to zero d h within = let first = first_adjoins g gs from to h in (omega (arith, first.0, first.1), adjoin_upward gs g.end to first.2)
 adjoin_at (g ∷ gs) from to (suc k) d h within = adjoin_at gs g.end to k d (first_adjoins g gs from to h).2 (omega arith)
 
 -- the grounds have the lines of the table
-pub adjoin_count : (ls : List Line) (gs : List GroundRecord) (from to : ℕ) → adjoin gs from to ≡ true → to ≤ length ls → line_count (grounds_of ls gs) + from ≡ to
+adjoin_count : (ls : List Line) (gs : List GroundRecord) (from to : ℕ) → adjoin gs from to ≡ true → to ≤ length ls → line_count (grounds_of ls gs) + from ≡ to
 adjoin_count ls [] from to h within = omega (arith, eqb-true from to h)
 adjoin_count ls (g ∷ gs) from to h within =
     let first = first_adjoins g gs from to h in
@@ -52,64 +52,77 @@ adjoin_count ls (g ∷ gs) from to h within =
     let long = length-between ls g.start g.end (omega arith) in
     omega (arith, first.0, first.1, long, adjoin_count ls gs g.end to first.2 within)
 
--- a record more
-pub adjoin_push : (gs : List GroundRecord) (g : GroundRecord) (from to : ℕ) → adjoin gs from to ≡ true → g.start ≡ to → to ≤ g.end → adjoin (gs ++ (g ∷ [])) from g.end ≡ true
+-- a record more, and what the last one tells
+pub adjoin_push : (gs : List GroundRecord) (g : GroundRecord) (from to : ℕ) → adjoin gs from to ≡ true → g.start ≡ to → to ≤ g.end → adjoin (gs ++ g ∷ []) from g.end ≡ true
 adjoin_push [] g from to h first long = let at = eqb-true from to h in adjoins g [] from g.end (omega arith) (omega arith) (eq-eqb g.end g.end refl)
-adjoin_push (b ∷ gs) g from to h first long = let was = first_adjoins b gs from to h in adjoins b (gs ++ (g ∷ [])) from g.end was.0 was.1 (adjoin_push gs g b.end to was.2 first long)
+adjoin_push (b ∷ gs) g from to h first long = let was = first_adjoins b gs from to h in adjoins b (gs ++ g ∷ []) from g.end was.0 was.1 (adjoin_push gs g b.end to was.2 first long)
 
--- the last record reaches further
-pub adjoin_longer : (gs : List GroundRecord) (from to n e : ℕ) (d : GroundRecord) → adjoin gs from to ≡ true → suc n ≡ length gs → to ≤ e → adjoin (set gs n (record { start = (get_or gs n d).start; end = e })) from e ≡ true
-adjoin_longer [] from to n e d h last long = absurd (omega arith)
-adjoin_longer (g ∷ []) from to zero e d h last long =
-    let first = first_adjoins g [] from to h in
-    let at = eqb-true g.end to first.2 in
-    adjoins (record { start = g.start; end = e }) [] from e first.0 (omega (arith, first.1)) (eq-eqb e e refl)
-adjoin_longer (g ∷ []) from to (suc n) e d h last long = absurd (omega arith)
-adjoin_longer (g ∷ b ∷ gs) from to zero e d h last long = absurd (omega arith)
-adjoin_longer (g ∷ b ∷ gs) from to (suc n) e d h last long =
-    let first = first_adjoins g (b ∷ gs) from to h in
-    adjoins g (set (b ∷ gs) n (record { start = (get_or (b ∷ gs) n d).start; end = e })) from e first.0 first.1 (adjoin_longer (b ∷ gs) g.end to n e d first.2 (omega arith) long)
+adjoin_last : (gs : List GroundRecord) (g : GroundRecord) (from to : ℕ) → adjoin (gs ++ g ∷ []) from to ≡ true → (adjoin gs from g.start ≡ true) × (g.start ≤ g.end) × (g.end ≡ to)
+adjoin_last [] g from to h = let first = first_adjoins g [] from to h in (eq-eqb from g.start (sym first.0), omega (arith, first.0, first.1), eqb-true g.end to first.2)
+adjoin_last (b ∷ gs) g from to h =
+    let first = first_adjoins b (gs ++ g ∷ []) from to h in
+    let last = adjoin_last gs g b.end to first.2 in
+    (adjoins b gs from g.start first.0 first.1 last.0, last.1, last.2)
 
--- a line behind all grounds leaves those before the last, and goes to the last
+-- a line behind all others leaves the grounds before it, and goes to one that reaches to it
 module _ (ls : List Line) (x : Line) where
-  cut_same : (g : GroundRecord) → g.start ≤ g.end → g.end ≤ length ls → cut (ls ++ (x ∷ [])) g ≡ cut ls g
+  cut_same : (g : GroundRecord) → g.start ≤ g.end → g.end ≤ length ls → cut (ls ++ x ∷ []) g ≡ cut ls g
   cut_same g start end =
       ap (take (g.end - g.start)) (drop-append-le g.start ls (x ∷ []) (omega arith))
       ∙ take-append-le (g.end - g.start) (drop g.start ls) (x ∷ []) (simp length-drop (omega arith))
 
-  cut_more : (start : ℕ) → start ≤ length ls → cut (ls ++ (x ∷ [])) (record { start = start; end = length ls + 1 }) ≡ cut ls (record { start = start; end = length ls }) ++ (x ∷ [])
+  grounds_same : (gs : List GroundRecord) (from to : ℕ) → adjoin gs from to ≡ true → to ≤ length ls → grounds_of (ls ++ x ∷ []) gs ≡ grounds_of ls gs
+  grounds_same [] from to h within = refl
+  grounds_same (g ∷ gs) from to h within =
+      let first = first_adjoins g gs from to h in
+      let upward = adjoin_upward gs g.end to first.2 in
+      ap (λ t. t ∷ grounds_of (ls ++ x ∷ []) gs) (cut_same g (omega (arith, first.0, first.1)) (omega arith)) ∙ ap (λ t. cut ls g ∷ t) (grounds_same gs g.end to first.2 within)
+
+  cut_more : (start : ℕ) → start ≤ length ls → cut (ls ++ x ∷ []) (record { start = start; end = length ls + 1 }) ≡ cut ls (record { start = start; end = length ls }) ++ x ∷ []
   cut_more start within =
       let long = length-drop start ls in
       ap (take (length ls + 1 - start)) (drop-append-le start ls (x ∷ []) within)
-      ∙ take_all (length ls + 1 - start) (drop start ls ++ (x ∷ [])) (simp length-append (omega arith))
-      ∙ ap (λ t. t ++ (x ∷ [])) (sym (take_all (length ls - start) (drop start ls) (omega arith)))
+      ∙ take_all (length ls + 1 - start) (drop start ls ++ x ∷ []) (simp length-append (omega arith))
+      ∙ ap (λ t. t ++ x ∷ []) (sym (take_all (length ls - start) (drop start ls) (omega arith)))
 
-  pub grounds_longer : (gs : List GroundRecord) (from n : ℕ) (d : GroundRecord) → adjoin gs from (length ls) ≡ true → suc n ≡ length gs → grounds_of (ls ++ (x ∷ [])) (set gs n (record { start = (get_or gs n d).start; end = length ls + 1 })) ≡ take n (grounds_of ls gs) ++ ((get_or (grounds_of ls gs) n [] ++ (x ∷ [])) ∷ [])
-  grounds_longer [] from n d h last = absurd (omega arith)
-  grounds_longer (g ∷ []) from zero d h last =
-      let first = first_adjoins g [] from (length ls) h in
-      let at = eqb-true g.end (length ls) first.2 in
-      ap (λ t. t ∷ []) (cut_more g.start (omega (arith, first.0, first.1)) ∙ ap (λ e. cut ls (record { start = g.start; end = e }) ++ (x ∷ [])) (sym at))
-  grounds_longer (g ∷ []) from (suc n) d h last = absurd (omega arith)
-  grounds_longer (g ∷ b ∷ gs) from zero d h last = absurd (omega arith)
-  grounds_longer (g ∷ b ∷ gs) from (suc n) d h last =
-      let first = first_adjoins g (b ∷ gs) from (length ls) h in
-      let upward = adjoin_upward (b ∷ gs) g.end (length ls) first.2 in
-      ap (λ t. t ∷ grounds_of (ls ++ (x ∷ [])) (set (b ∷ gs) n (record { start = (get_or (b ∷ gs) n d).start; end = length ls + 1 }))) (cut_same g (omega (arith, first.0, first.1)) upward)
-      ∙ ap (λ t. cut ls g ∷ t) (grounds_longer (b ∷ gs) g.end n d first.2 (omega arith))
+-- the last record of a ledger written over
+set_last : {X : Type 0} (xs : List X) (n : ℕ) (y : X) → suc n ≡ length xs → set xs n y ≡ take n xs ++ y ∷ []
+set_last xs n y last = set_split xs n y (omega arith) ∙ ap (λ t. take n xs ++ y ∷ t) (drop_all (suc n) xs (omega arith))
+
+module _ (s : Ledger) (n : ℕ) (d : GroundRecord) (last : suc n ≡ length s.grounds.items) where
+  records_are : s.grounds.items ≡ take n s.grounds.items ++ get_or s.grounds.items n d ∷ []
+  records_are = sym (set-get_or s.grounds.items n d) ∙ set_last s.grounds.items n (get_or s.grounds.items n d) last
+
+  last_adjoins : (adjoin (take n s.grounds.items) 0 (get_or s.grounds.items n d).start ≡ true) × ((get_or s.grounds.items n d).start ≤ (get_or s.grounds.items n d).end) × ((get_or s.grounds.items n d).end ≡ length s.lines.items)
+  last_adjoins = adjoin_last (take n s.grounds.items) (get_or s.grounds.items n d) 0 (length s.lines.items) (ap (λ gs. adjoin gs 0 (length s.lines.items)) (sym records_are) ∙ s.adjoin)
+
+  -- it reaches further
+  pub still_adjoin : (e : ℕ) → length s.lines.items ≤ e → adjoin (set s.grounds.items n (record { start = (get_or s.grounds.items n d).start; end = e })) 0 e ≡ true
+  still_adjoin e long =
+      let was = last_adjoins in
+      ap (λ gs. adjoin gs 0 e) (set_last s.grounds.items n (record { start = (get_or s.grounds.items n d).start; end = e }) last)
+      ∙ adjoin_push (take n s.grounds.items) (record { start = (get_or s.grounds.items n d).start; end = e }) 0 (get_or s.grounds.items n d).start was.0 refl (omega (arith, was.1, was.2))
+
+  -- to a line behind all others, which is one more in the newest ground
+  pub put_behind : (x : Line) (older : List Ground) (newest : Ground) → held s ≡ older ++ newest ∷ [] → grounds_of (s.lines.items ++ x ∷ []) (set s.grounds.items n (record { start = (get_or s.grounds.items n d).start; end = length s.lines.items + 1 })) ≡ older ++ (newest ++ x ∷ []) ∷ []
+  put_behind x older newest was =
+      let ls = s.lines.items in
+      let gs = take n s.grounds.items in
+      let g = get_or s.grounds.items n d in
+      let at = last_adjoins in
+      let parts = same_from_push (grounds_of ls gs) older (cut ls g) newest (sym (map_push (cut ls) gs g) ∙ ap (grounds_of ls) (sym records_are) ∙ was) in
+      ap (grounds_of (ls ++ x ∷ [])) (set_last s.grounds.items n (record { start = g.start; end = length ls + 1 }) last)
+      ∙ map_push (cut (ls ++ x ∷ [])) gs (record { start = g.start; end = length ls + 1 })
+      ∙ ap (λ (t : List Ground). t ++ cut (ls ++ x ∷ []) (record { start = g.start; end = length ls + 1 }) ∷ []) (grounds_same ls x gs 0 g.start at.0 (omega (arith, at.1, at.2)) ∙ parts.0)
+      ∙ ap (λ (t : Ground). older ++ t ∷ []) (cut_more ls x g.start (omega (arith, at.1, at.2)) ∙ ap (λ (e : ℕ). cut ls (record { start = g.start; end = e }) ++ x ∷ []) (sym at.2) ∙ ap (λ (t : Ground). t ++ x ∷ []) parts.1)
 
 -- the lines in use are those of the grounds
 pub counted : (s : Ledger) → line_count (held s) ≡ length s.lines.items
 counted s = omega (arith, adjoin_count s.lines.items s.grounds.items 0 (length s.lines.items) s.adjoin (omega arith))
 
--- a line behind all others, and the last record reaching to it, are a line more in the newest ground
-pub put_behind : (s : Ledger) (x : Line) (n : ℕ) (d : GroundRecord) → suc n ≡ length s.grounds.items → (older : List Ground) (newest : Ground) → held s ≡ older ++ (newest ∷ []) → grounds_of (s.lines.items ++ (x ∷ [])) (set s.grounds.items n (record { start = (get_or s.grounds.items n d).start; end = length s.lines.items + 1 })) ≡ older ++ ((newest ++ (x ∷ [])) ∷ [])
-put_behind s x n d last older newest was =
-    let long : length older ≡ n = omega (arith, last, length-map s.grounds.items (cut s.lines.items), ap length was, length-append older (newest ∷ [])) in
-    grounds_longer s.lines.items x s.grounds.items 0 n d s.adjoin last
-    ∙ ap (λ (h : List Ground). take n h ++ ((get_or h n [] ++ (x ∷ [])) ∷ [])) was
-    ∙ ap (λ (h : List Ground). h ++ ((get_or (older ++ (newest ∷ [])) n [] ++ (x ∷ [])) ∷ [])) (take_at older (newest ∷ []) n long)
-    ∙ ap (λ (h : Ground). older ++ ((h ++ (x ∷ [])) ∷ [])) (get_or_at older newest [] [] n long)
+-- the index of the newest ground
+pub last_index : (s : Ledger) (count : ℕ) → 0 < length (held s) → count ≡ length s.grounds.items → suc (count - 1) ≡ length s.grounds.items
+last_index s count some is = omega (arith, some, is, length-map s.grounds.items (cut s.lines.items))
 
 -- a record that is read
 pub record_within : (s : Ledger) (k : ℕ) (r : GroundRecord) → k < length s.grounds.items → r ≡ get_or s.grounds.items k r → (get_or s.grounds.items k r ≡ r) × (r.start ≤ r.end) × (r.end ≤ length s.lines.items)
@@ -118,7 +131,7 @@ record_within s k r within is =
     (sym is, rw is at.0, rw is at.1)
 
 -- the lines of the grounds, with one ground more
-pub line_count_push : (gs : List Ground) (g : Ground) → line_count (gs ++ (g ∷ [])) ≡ line_count gs + length g
+pub line_count_push : (gs : List Ground) (g : Ground) → line_count (gs ++ g ∷ []) ≡ line_count gs + length g
 line_count_push [] g = omega arith
 line_count_push (h ∷ gs) g = omega (arith, line_count_push gs g)
 

@@ -15,12 +15,7 @@ near_since l h =
     let rest = and_parts (leb l.level most_places) _ parts.1 in
     (leb-true _ _ parts.0, leb-true _ _ rest.0, leb-true _ _ rest.1)
 
-pub all_near_since : (ls : List Line) → all_near ls ≡ true → AllNear ls
-all_near_since [] h k = near_none
-all_near_since (l ∷ ls) h zero = near_since l (and_parts (near l) (all_near ls) h).0
-all_near_since (l ∷ ls) h (suc k) = all_near_since ls (and_parts (near l) (all_near ls) h).1 k
-
-pub since_near : (l : Line) → Near l → near l ≡ true
+since_near : (l : Line) → Near l → near l ≡ true
 since_near l h = and_from (leb l.row greatest_row) _ (le-leb _ _ h.0) (and_from (leb l.level most_places) _ (le-leb _ _ h.1) (le-leb _ _ h.2))
 
 pub since_all_near : (ls : List Line) → AllNear ls → all_near ls ≡ true
@@ -28,7 +23,7 @@ since_all_near [] h = refl
 since_all_near (l ∷ ls) h = and_from (near l) (all_near ls) (since_near l (h 0)) (since_all_near ls (λ k. h (suc k)))
 
 -- one line more
-pub near_push : (ls : List Line) (l : Line) → AllNear ls → Near l → AllNear (ls ++ (l ∷ []))
+pub near_push : (ls : List Line) (l : Line) → AllNear ls → Near l → AllNear (ls ++ l ∷ [])
 near_push [] l all new zero = new
 near_push [] l all new (suc k) = near_none
 near_push (x ∷ ls) l all new zero = all 0

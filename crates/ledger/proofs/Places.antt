@@ -39,7 +39,7 @@ rising_at (b ∷ g) (suc i) zero rise lt within = absurd (omega arith)
 rising_at (b ∷ g) (suc i) (suc j) rise lt within = rising_at g i j (and_parts (list_all (before b) g) _ rise).1 (omega arith) (omega arith)
 
 -- along a ground in order the answers of a search rise
-pub answers_rise : (a : Line) (g : Ground) → rising g ≡ true → IsNonDecreasingBy (λ b. ordering_index (by_place b a)) g
+answers_rise : (a : Line) (g : Ground) → rising g ≡ true → IsNonDecreasingBy (λ b. ordering_index (by_place b a)) g
 answers_rise a g rise = IsNonDecreasingBy-from_default (λ b. ordering_index (by_place b a)) g no_line (λ i j le within. elim (cases_lt i j) [
   | inl lt ↦ before_rises (get_or g i no_line) (get_or g j no_line) a (rising_at g i j rise lt within)
   | inr ge ↦ let same : i ≡ j = omega arith in omega (arith, ap (λ k. ordering_index (by_place (get_or g k no_line) a)) same)
@@ -47,7 +47,7 @@ answers_rise a g rise = IsNonDecreasingBy-from_default (λ b. ordering_index (by
 
 module _ (S : Setting) (a : Line) where
   -- between the lines before it and the others
-  pub with_between : (g : Ground) (i : ℕ) → i ≤ length g → ((k : ℕ) → k < i → by_place (get_or g k no_line) a ≡ Less) → ((k : ℕ) → i ≤ k → k < length g → by_place (get_or g k no_line) a ≡ Greater) → insert g i a ≡ with_line S a g
+  with_between : (g : Ground) (i : ℕ) → i ≤ length g → ((k : ℕ) → k < i → by_place (get_or g k no_line) a ≡ Less) → ((k : ℕ) → i ≤ k → k < length g → by_place (get_or g k no_line) a ≡ Greater) → insert g i a ≡ with_line S a g
   with_between [] zero within less greater = refl
   with_between [] (suc i) within less greater = absurd (omega arith)
   with_between (b ∷ g) zero within less greater = sym (cond-true (before a b) _ _ (greater_before b a (greater 0 (omega arith) (omega arith))))
@@ -57,7 +57,7 @@ module _ (S : Setting) (a : Line) where
       ∙ sym (cond-false (before a b) _ _ passed.0 ∙ cond-false (same_place a b) _ _ passed.1)
 
   -- in the place of another
-  pub with_same : (g : Ground) (i : ℕ) → rising g ≡ true → i < length g → by_place (get_or g i no_line) a ≡ Equal → set g i (kept S a (get_or g i no_line)) ≡ with_line S a g
+  with_same : (g : Ground) (i : ℕ) → rising g ≡ true → i < length g → by_place (get_or g i no_line) a ≡ Equal → set g i (kept S a (get_or g i no_line)) ≡ with_line S a g
   with_same [] i rise within same = absurd (omega arith)
   with_same (b ∷ g) zero rise within same =
       let there = equal_same b a same in

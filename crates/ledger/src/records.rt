@@ -1,4 +1,5 @@
 // Where the lines of a ground lie in the table of lines: from one index up to another.
+// A list of lists would need a heap, which no library here has.
 #[derive(Clone, Copy, Default)]
 pub struct GroundRecord {
     pub start: usize,

@@ -42,7 +42,7 @@ impl Ledger {
         self.grounds.push(GroundRecord { start: at, end: at });
     }
 
-    // Writes one line, behind those of the newest ground.
+    // Writes one line, behind those of the newest ground. By a rule of the project one element is written by a method of its own.
     fn put_line(&mut self, line: Line)
         requires open { 0 < length (held self.old) }
         requires room { line_count (held self.old) < most_lines }

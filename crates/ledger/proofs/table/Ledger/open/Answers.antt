@@ -8,4 +8,4 @@ invariant_of-self-clause-adjoin c =
     let s = c.args.self.now in
     let at = c.len-at.result in
     let more = adjoin_push s.grounds.items (record { start = at; end = at }) 0 (length s.lines.items) s.adjoin c.len-at.ensures.value (omega arith) in
-    rw c.push.ensures.items (ap (λ (e : ℕ). adjoin (s.grounds.items ++ (record { start = at; end = at } ∷ [])) 0 e) (sym c.len-at.ensures.value) ∙ more)
+    rw c.push.ensures.items (ap (λ (e : ℕ). adjoin (s.grounds.items ++ record { start = at; end = at } ∷ []) 0 e) (sym c.len-at.ensures.value) ∙ more)
