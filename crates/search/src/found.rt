@@ -17,7 +17,7 @@ pub struct Ran {
     pub made: u32,
 }
 
-// What a search has found.
+// What a search has found: the four findings of the rules.
 #[derive(Clone, Copy, Debug, PartialEq, Eq)]
 pub enum Finding {
     // It has ended: the least choice, and the closing ground.
