@@ -48,10 +48,12 @@ impl Grid {
         ensures is { result ≡ (setting self.now).amount row (pick.index + 1) pick.version }
         ensures near { unsigned_abs result ≤ greatest_amount }
     {
-        if !(1..=MOST_VERSIONS).contains(&pick.version) {
-            return 0;
+        match pick.version {
+            1..=MOST_VERSIONS => {
+                let at = usize::from(pick.version) - 1;
+                i64::from(self.positions[pick.index].versions[at].rows[usize::from(row)])
+            }
+            _ => 0,
         }
-        let at = usize::from(pick.version) - 1;
-        i64::from(self.positions[pick.index].versions[at].rows[usize::from(row)])
     }
 }
