@@ -1,7 +1,7 @@
 -- A line's constant joined with the amounts above its level, one position lower at a time. Assumes nothing.
-use Rattle.std.proofs.Common.{◌≡◌, ℕ, zero, suc, ◌+◌, ◌-◌, ◌<◌, ◌≤◌, min, false, ◌&&◌, leb, List, length, get_or, take, drop, ℤ, sym, ap, ◌∙◌, ⊎_elim, arith, length-drop}
+use Rattle.std.proofs.Common.{◌≡◌, ℕ, zero, suc, ◌+◌, ◌-◌, ◌<◌, ◌≤◌, ◌&&◌, leb, List, length, get_or, take, drop, ℤ, sym, ap, ◌∙◌, ⊎_elim, arith, length-drop}
 use Rattle.std.proofs.lemmas.List.{drop_more, drop_all, get_or-take, length-take-le}
-use Rattle.std.proofs.lemmas.Bool.{le-leb, lt-leb, and_left, cases_lt}
+use Rattle.std.proofs.lemmas.Bool.{le-leb, cases_lt}
 use Rattle.rules.specs.declared.lines.Line.{Line}
 use Rattle.rules.specs.Sheets.{Limits}
 use Rattle.rules.specs.Grounds.{Setting, open_places, joined_above, line_stands}
@@ -42,9 +42,6 @@ module _ (S : Setting) (vs : List ℕ) (whole : length vs ≡ S.places) where
   line_is L l opened within =
       ap (λ n. leb n l.level && (S.joining l.row).worse (joined_above S l.row l.level l.constant (drop opened vs)) (L l.row)) (opened_is opened within)
 
-  pub line_off : (L : Limits) (l : Line) (opened : ℕ) → opened ≤ length vs → l.level < opened → line_stands S L (drop opened vs) l ≡ false
-  line_off L l opened within low = line_is L l opened within ∙ and_left (leb opened l.level) _ (lt-leb opened l.level low)
-
   pub line_on : (L : Limits) (l : Line) (opened : ℕ) → opened ≤ length vs → opened ≤ l.level → line_stands S L (drop opened vs) l ≡ (S.joining l.row).worse (joined_above S l.row l.level l.constant (drop l.level vs)) (L l.row)
   line_on L l opened within low =
       line_is L l opened within
@@ -56,20 +53,9 @@ module _ (S : Setting) (vs : List ℕ) (long : S.places ≤ length vs) (row leve
   whole : length (take S.places vs) ≡ S.places
   whole = length-take-le S.places vs long
 
-  pub above_top : (j : ℕ) → j ≡ S.places → k ≡ joined_above S row level k (drop j (take S.places vs))
-  above_top j is = sym (above_none S (take S.places vs) whole row level k j (omega (arith, whole)))
-
   pub above_down : (j : ℕ) → 0 < j → j ≤ S.places → level < j → joined_above S row level k (drop (j - 1) (take S.places vs)) ≡ (S.joining row).join (joined_above S row level k (drop j (take S.places vs))) (S.amount row (j - 1 + 1) (get_or vs (j - 1) 0))
   above_down j some within low =
       let back : j - 1 + 1 ≡ j = omega arith in
       above_more S (take S.places vs) whole row level k (j - 1) (omega (arith, whole)) (omega arith)
       ∙ ap (λ n. (S.joining row).join (joined_above S row level k (drop n (take S.places vs))) (S.amount row (j - 1 + 1) (get_or (take S.places vs) (j - 1) 0))) back
       ∙ ap (λ x. (S.joining row).join (joined_above S row level k (drop j (take S.places vs))) (S.amount row (j - 1 + 1) x)) (get_or-take S.places vs (j - 1) 0 (omega arith))
-
-  -- from the level on, or from the last position where the level lies past it
-  pub above_level : (j : ℕ) → j ≡ min level S.places → joined_above S row level k (drop j (take S.places vs)) ≡ joined_above S row level k (drop level (take S.places vs))
-  above_level j is =
-      ⊎_elim
-      (λ lt. let e : j ≡ level = omega arith in ap (λ i. joined_above S row level k (drop i (take S.places vs))) e)
-      (λ le. sym (above_top j (omega arith)) ∙ sym (above_none S (take S.places vs) whole row level k level (omega (arith, whole))))
-      (cases_lt level S.places)

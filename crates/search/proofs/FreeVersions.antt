@@ -2,12 +2,14 @@
 use Rattle.std.proofs.Common.{◌≡◌, ℕ, zero, suc, ◌+◌, ◌-◌, ◌<◌, ◌≤◌, Bool, true, false, cond, [], ◌∷◌, length, get_or, drop, is_some, Some, None, Option, sym, ap, ◌∙◌, ⊎_elim, arith}
 use Rattle.std.proofs.lemmas.Bool.{cases_lt}
 use Rattle.rules.specs.Sheets.{Limits}
-use Rattle.rules.specs.Grounds.{Setting, Part, Ground, stands, first_standing}
+use Rattle.rules.specs.Grounds.{Setting, Part, Ground}
 use Rattle.rules.specs.Search.{State, stopped, lowest_free}
-use Rattle.search.specs.States.{chosen_from, job_limits, force, grounds, part_in, state_of}
-use Rattle.search.specs.declared.part as declared
+use Rattle.search.specs.States.{chosen_from, job_limits, force, grounds, state_of}
+use Rattle.search.specs.Trials.{tried, holds, first_at, above_place}
 use Rattle.search.specs.declared.search.Search.{Search}
-use Rattle.search.proofs.Standing.{first_found, first_none}
+use Rattle.search.specs.declared.search.place.Place.{Place}
+use Rattle.search.specs.declared.search.trial.Trial.{Trial}
+use Rattle.search.proofs.Standing.{first_found, first_more, first_none}
 
 module _ (S : Setting) (L : Limits) (σ : State) (t : Part) where
   choose : Option ℕ → Bool → ℕ → Option ℕ
@@ -23,9 +25,6 @@ module _ (S : Setting) (L : Limits) (σ : State) (t : Part) where
       ∙ ap (λ k. cond (stopped S L σ (k ∷ t)) None (Some k)) (sym back)
       ∙ ap (λ c. cond c None (Some v)) is
 
-  none_more : (v : ℕ) → 1 ≤ v → lowest_free S L σ t (v - 1) ≡ None → stopped S L σ (v ∷ t) ≡ true → lowest_free S L σ t (v + 1 - 1) ≡ None
-  none_more v some before blocked = let at : v + 1 - 1 ≡ v = omega arith in ap (lowest_free S L σ t) at ∙ at_version v true some before blocked
-
   -- what is found stays the lowest
   stays : (v w k : ℕ) → lowest_free S L σ t v ≡ Some w → v ≤ k → lowest_free S L σ t k ≡ Some w
   unfolding choose
@@ -39,14 +38,29 @@ module _ (S : Setting) (L : Limits) (σ : State) (t : Part) where
   found_free : (v k : ℕ) → 1 ≤ v → v ≤ k → lowest_free S L σ t (v - 1) ≡ None → stopped S L σ (v ∷ t) ≡ false → lowest_free S L σ t k ≡ Some v
   found_free v k some le before free = stays v v k (at_version v false some before free) le
 
--- a version tried in a search, with grounds from an index on still to be looked at
-module _ (s : Search) (t : Part) (v : ℕ) (trial : declared.Part.Part) (is : part_in s trial ≡ v ∷ t) (i : ℕ) (so_far : first_standing (chosen_from s) (force s) (grounds s) (part_in s trial) ≡ first_standing (chosen_from s) (force s) (drop i (grounds s)) (part_in s trial)) where
-  blocked_is : (o : Option Ground) → first_standing (chosen_from s) (force s) (drop i (grounds s)) (part_in s trial) ≡ o → stopped (chosen_from s) (job_limits s) (state_of s) (v ∷ t) ≡ is_some o
-  blocked_is o e = ap (stopped (chosen_from s) (job_limits s) (state_of s)) (sym is) ∙ ap is_some (so_far ∙ e)
+-- a version tried at a place, with grounds from an index on still to be looked at
+module _ (p : Place) (v : ℕ) (t : Trial) (same : t.search.now ≡ p.search.now) (is : tried t ≡ v ∷ above_place p) (i : ℕ) (so_far : first_at t (grounds t.search.now) ≡ first_at t (drop i (grounds t.search.now))) where
+  abbrev S : Setting
+  S = chosen_from p.search.now
 
-  module _ (some : 1 ≤ v) (before : lowest_free (chosen_from s) (job_limits s) (state_of s) t (v - 1) ≡ None) where
-    pub trial_stopped : i < length (grounds s) → true ≡ stands (chosen_from s) (force s) (part_in s trial) (get_or (grounds s) i []) → lowest_free (chosen_from s) (job_limits s) (state_of s) t (v + 1 - 1) ≡ None
-    trial_stopped there on = none_more (chosen_from s) (job_limits s) (state_of s) t v some before (blocked_is _ (first_found (chosen_from s) (force s) (part_in s trial) (grounds s) i there (sym on)))
+  abbrev L : Limits
+  L = job_limits p.search.now
 
-    pub trial_free : length (grounds s) ≤ i → (k : ℕ) → v ≤ k → lowest_free (chosen_from s) (job_limits s) (state_of s) t k ≡ Some v
-    trial_free past k le = found_free (chosen_from s) (job_limits s) (state_of s) t v k some le before (blocked_is _ (first_none (chosen_from s) (force s) (part_in s trial) (grounds s) i past))
+  abbrev σ : State
+  σ = state_of p.search.now
+
+  stopped_is : (o : Option Ground) → first_at t (drop i (grounds t.search.now)) ≡ o → stopped S L σ (v ∷ above_place p) ≡ is_some o
+  stopped_is o e = ap (λ (s : Search). stopped (chosen_from s) (job_limits s) (state_of s) (v ∷ above_place p)) (sym same) ∙ ap (stopped (chosen_from t.search.now) (job_limits t.search.now) (state_of t.search.now)) (sym is) ∙ ap is_some (so_far ∙ e)
+
+  counted : length (grounds p.search.now) ≡ length (grounds t.search.now)
+  counted = ap (λ (s : Search). length (grounds s)) (sym same)
+
+  pub trial_more : i < length (grounds p.search.now) → false ≡ holds t (get_or (grounds t.search.now) i []) → first_at t (grounds t.search.now) ≡ first_at t (drop (i + 1) (grounds t.search.now))
+  trial_more there falls = so_far ∙ first_more (chosen_from t.search.now) (force t.search.now) (tried t) (grounds t.search.now) i (omega (arith, counted)) (sym falls)
+
+  module _ (some : 1 ≤ v) (before : lowest_free S L σ (above_place p) (v - 1) ≡ None) where
+    pub trial_stopped : i < length (grounds p.search.now) → true ≡ holds t (get_or (grounds t.search.now) i []) → lowest_free S L σ (above_place p) v ≡ None
+    trial_stopped there on = at_version S L σ (above_place p) v true some before (stopped_is _ (first_found (chosen_from t.search.now) (force t.search.now) (tried t) (grounds t.search.now) i (omega (arith, counted)) (sym on)))
+
+    pub trial_free : length (grounds p.search.now) ≤ i → (k : ℕ) → v ≤ k → lowest_free S L σ (above_place p) k ≡ Some v
+    trial_free past k le = found_free S L σ (above_place p) v k some le before (stopped_is _ (first_none (chosen_from t.search.now) (force t.search.now) (tried t) (grounds t.search.now) i (omega (arith, counted))))

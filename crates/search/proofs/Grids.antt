@@ -1,5 +1,5 @@
 -- What the tables of a grid hold. Assumes nothing.
-use Rattle.std.proofs.Common.{◌≡◌, ℕ, ◌+◌, ◌-◌, ◌<◌, ◌≤◌, Bool, true, false, cond, ◌&&◌, eqb, leb, List, length, get_or, set, replicate, ℤ, pos, nat_abs, sym, refl, ap, ◌∙◌, ⊎_elim, arith, length-set}
+use Rattle.std.proofs.Common.{◌≡◌, ℕ, zero, suc, ◌-◌, ◌<◌, ◌≤◌, Bool, true, false, cond, ◌&&◌, eqb, leb, List, [], ◌∷◌, length, get_or, set, replicate, ℤ, pos, nat_abs, sym, refl, ap, ◌∙◌, ⊎_elim, arith, length-set}
 use mathlib.Core.Path.{fun_ext}
 use Rattle.std.proofs.lemmas.List.{get_or-set_same, get_or-set_other, get_or-replicate}
 use Rattle.std.proofs.lemmas.Bool.{cases_eq, eq-eqb, ne_eqb, cond-true, cond-false, and_from, and_parts, and_left, and_right, both_ways, le-leb, leb-true}
@@ -9,19 +9,23 @@ use Rattle.rules.specs.declared.kinds.Kind.{Kind}
 use Rattle.rules.specs.declared.kinds.Kind.TheVariants.{SumAtMost}
 use Rattle.rules.specs.Joinings.{Joining, joining}
 use Rattle.rules.specs.Grounds.{Setting}
-use Rattle.ledger.proofs.Nears.{set_either, replicate_either}
-use Rattle.search.specs.Tables.{no_amounts, no_position, count_at, slot, has_version, amount_at, Counted, Long, Wide, Near, put_row, put_version, put_count, put_slot}
+use Rattle.search.specs.Tables.{no_amounts, no_position, count_at, slot, has_version, amount_at, Counted, Long, Wide, Near, put_row, put_version, put_slot}
 use Rattle.search.specs.Settings.{one_position}
 use Rattle.search.specs.declared.position.Amounts.{Amounts}
 use Rattle.search.specs.declared.position.Position.{Position}
 
-pub count_is : (ps : List Position) (i : ℕ) → (get_or ps i no_position).count ≡ count_at ps (i + 1)
-count_is ps i = let back : i ≡ i + 1 - 1 = omega arith in ap (λ j. (get_or ps j no_position).count) back
+-- what holds of an element that is written, and of those that were there, holds of all; so of a list that is one element over and over
+set_either : {X : Type 0} (P : X → Type 0) (xs : List X) (i j : ℕ) (a d : X) → P a → P (get_or xs j d) → P (get_or (set xs i a) j d)
+set_either P [] i j a d new old = old
+set_either P (x ∷ xs) zero zero a d new old = new
+set_either P (x ∷ xs) zero (suc j) a d new old = old
+set_either P (x ∷ xs) (suc i) zero a d new old = old
+set_either P (x ∷ xs) (suc i) (suc j) a d new old = set_either P xs i j a d new old
 
-pub amount_is : (ps : List Position) (r i v : ℕ) → 1 ≤ v → v ≤ most_versions → slot ps i (v - 1) r ≡ amount_at ps r (i + 1) v
-amount_is ps r i v some most =
-    let back : i ≡ i + 1 - 1 = omega arith in
-    ap (λ j. slot ps j (v - 1) r) back ∙ sym (cond-true (has_version v) _ _ (and_from (leb 1 v) (leb v most_versions) (le-leb 1 v some) (le-leb v most_versions most)))
+replicate_either : {X : Type 0} (P : X → Type 0) (n k : ℕ) (x d : X) → P x → P d → P (get_or (replicate n x) k d)
+replicate_either P zero k x d new none = none
+replicate_either P (suc n) zero x d new none = new
+replicate_either P (suc n) (suc k) x d new none = replicate_either P n k x d new none
 
 -- what the tables keep, at one position
 abbrev GoodPosition : Position → Type 0
@@ -31,32 +35,26 @@ GoodPosition p =
     × ((j r : ℕ) → nat_abs (get_or (get_or p.versions j no_amounts).rows r (pos 0)) ≤ greatest_amount)
 
 -- what they keep, at all positions
-abbrev pub Good : List Position → Type 0
-Good ps = (length ps ≡ most_places) × (Counted ps × (Long ps × (Wide ps × (Near ps × Unit {0}))))
+pub record Good (ps : List Position) : Type 0 where
+  pub whole : length ps ≡ most_places
+  pub counted : Counted ps
+  pub long : Long ps
+  pub wide : Wide ps
+  pub near : Near ps
 
 at_position : (ps : List Position) → Good ps → (i : ℕ) → i < most_places → GoodPosition (get_or ps i no_position)
-at_position ps good i low = (good.1.0 i low, good.1.1.0 i low, (λ j few. good.1.1.1.0 i j (low, few)), good.1.1.1.1.0 i)
+at_position ps good i low = (good.counted i low, good.long i low, (λ j few. good.wide i j (low, few)), good.near i)
 
 good_set : (ps : List Position) (i : ℕ) (x : Position) → Good ps → GoodPosition x → Good (set ps i x)
 good_set ps i x good new =
-    let at : (k : ℕ) → k < most_places → GoodPosition (get_or (set ps i x) k no_position) = λ k low. set_either GoodPosition ps i k x no_position new (at_position ps good k low) in (
-      length-set ps i x ∙ good.0,
-      (
-        (λ k low. (at k low).0),
-        (
-          (λ k low. (at k low).1),
-          (
-            (λ k j there. (at k there.0).2 j there.1),
-            ((λ k j r. set_either (λ (p : Position). nat_abs (get_or (get_or p.versions j no_amounts).rows r (pos 0)) ≤ greatest_amount) ps i k x no_position (new.3 j r) (good.1.1.1.1.0 k j r)), tt),
-          ),
-        ),
-      ),
-    )
-
-pub good_count : (ps : List Position) (i n : ℕ) → i < most_places → n ≤ most_versions → Good ps → Good (set ps i (put_count (get_or ps i no_position) n))
-good_count ps i n low most good =
-    let old = at_position ps good i low in
-    good_set ps i _ good (most, old.1, old.2, old.3)
+    let at : (k : ℕ) → k < most_places → GoodPosition (get_or (set ps i x) k no_position) = λ k low. set_either GoodPosition ps i k x no_position new (at_position ps good k low) in
+    record {
+      whole = length-set ps i x ∙ good.whole;
+      counted = λ k low. (at k low).0;
+      long = λ k low. (at k low).1;
+      wide = λ k j there. (at k there.0).2 j there.1;
+      near = λ k j r. set_either (λ (p : Position). nat_abs (get_or (get_or p.versions j no_amounts).rows r (pos 0)) ≤ greatest_amount) ps i k x no_position (new.3 j r) (good.near k j r);
+    }
 
 pub good_slot : (ps : List Position) (i j r : ℕ) (z : ℤ) → i < most_places → j < most_versions → nat_abs z ≤ greatest_amount → Good ps → Good (put_slot ps i j r z)
 good_slot ps i j r z low few near good =
@@ -87,19 +85,14 @@ blank_slot i j r =
     refl
 
 pub good_blank : Good blank_positions
-good_blank = (
-  refl,
-  (
-    (λ i low. let none = ap (λ (p : Position). p.count) (get_or-replicate most_places i blank_position no_position low) in omega arith),
-    (
-      (λ i low. ap (λ (p : Position). length p.versions) (get_or-replicate most_places i blank_position no_position low)),
-      (
-        (λ i j there. ap (λ (p : Position). length (get_or p.versions j no_amounts).rows) (get_or-replicate most_places i blank_position no_position there.0) ∙ ap (λ (a : Amounts). length a.rows) (get_or-replicate most_versions j blank_amounts no_amounts there.1)),
-        ((λ i j r. let none = ap nat_abs (blank_slot i j r) in omega arith), tt),
-      ),
-    ),
-  ),
-)
+good_blank =
+    record {
+      whole = refl;
+      counted = λ i low. let none = ap (λ (p : Position). p.count) (get_or-replicate most_places i blank_position no_position low) in omega arith;
+      long = λ i low. ap (λ (p : Position). length p.versions) (get_or-replicate most_places i blank_position no_position low);
+      wide = λ i j there. ap (λ (p : Position). length (get_or p.versions j no_amounts).rows) (get_or-replicate most_places i blank_position no_position there.0) ∙ ap (λ (a : Amounts). length a.rows) (get_or-replicate most_versions j blank_amounts no_amounts there.1);
+      near = λ i j r. let none = ap nat_abs (blank_slot i j r) in omega arith;
+    }
 
 pub blank_counts : count_at blank_positions ≡ (λ p. 0)
 blank_counts = fun_ext (λ p. replicate_either (λ (x : Position). x.count ≡ 0) most_places (p - 1) blank_position no_position refl refl)
@@ -139,7 +132,7 @@ slot_set ps good i j r z low few wide k l q =
     let a = get_or vs j no_amounts in
     ⊎_elim
     (λ e.
-    ap (λ (x : Position). get_or (get_or x.versions l no_amounts).rows q (pos 0)) (ap (λ h. get_or (put_slot ps i j r z) h no_position) e ∙ get_or-set_same ps i _ no_position (omega (arith, good.0)))
+    ap (λ (x : Position). get_or (get_or x.versions l no_amounts).rows q (pos 0)) (ap (λ h. get_or (put_slot ps i j r z) h no_position) e ∙ get_or-set_same ps i _ no_position (omega (arith, good.whole)))
     ∙ ⊎_elim
     (λ f.
     ap (λ (x : Amounts). get_or x.rows q (pos 0)) (ap (λ h. get_or (set vs j (put_row a r z)) h no_amounts) f ∙ get_or-set_same vs j _ no_amounts (omega (arith, old.1)))
@@ -177,9 +170,9 @@ module _ (ps : List Position) (good : Good ps) (p v row : ℕ) (z : ℤ) (low : 
   amounts_set : amount_at (put_slot ps (p - 1) (v - 1) row z) ≡ (λ r q w. cond (one_position q p && (eqb w v && eqb r row)) z (amount_at ps r q w))
   amounts_set = fun_ext (λ r. fun_ext (λ q. fun_ext (λ w. by_version (has_version w) w q r refl)))
 
-  pub amounts_put : (p' v' row' : ℕ) (z' : ℤ) → p' ≡ p → v' ≡ v → row' ≡ row → z' ≡ z → amount_at (put_slot ps (p' - 1) (v' - 1) row' z') ≡ (λ r q w. cond (one_position q p && (eqb w v && eqb r row)) z (amount_at ps r q w))
-  amounts_put p' v' row' z' a b c d =
-      ap (λ x. amount_at (put_slot ps (x - 1) (v' - 1) row' z')) a ∙ ap (λ x. amount_at (put_slot ps (p - 1) (x - 1) row' z')) b ∙ ap (λ x. amount_at (put_slot ps (p - 1) (v - 1) x z')) c ∙ ap (λ x. amount_at (put_slot ps (p - 1) (v - 1) row x)) d ∙ amounts_set
+  pub amounts_put : (i v' row' : ℕ) (z' : ℤ) → i ≡ p - 1 → v' ≡ v → row' ≡ row → z' ≡ z → amount_at (put_slot ps i (v' - 1) row' z') ≡ (λ r q w. cond (one_position q p && (eqb w v && eqb r row)) z (amount_at ps r q w))
+  amounts_put i v' row' z' a b c d =
+      ap (λ x. amount_at (put_slot ps x (v' - 1) row' z')) a ∙ ap (λ x. amount_at (put_slot ps (p - 1) (x - 1) row' z')) b ∙ ap (λ x. amount_at (put_slot ps (p - 1) (v - 1) x z')) c ∙ ap (λ x. amount_at (put_slot ps (p - 1) (v - 1) row x)) d ∙ amounts_set
 
 -- settings with the same parts
 pub same_setting : {n m n' m' : ℕ} {j j' : ℕ → Joining} {k k' : ℕ → ℕ} {a a' : ℕ → ℕ → ℕ → ℤ} → n ≡ n' → m ≡ m' → j ≡ j' → k ≡ k' → a ≡ a' → ◌≡◌ {A = Setting} (record { places = n; last_row = m; joining = j; versions = k; amount = a }) (record { places = n'; last_row = m'; joining = j'; versions = k'; amount = a' })

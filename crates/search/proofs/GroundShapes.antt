@@ -158,11 +158,11 @@ module _ (S : Setting) (few : S.last_row ≤ greatest_row) where
 
 -- the learned grounds of a search
 module _ (s : Search) (fits : learned_shaped s ≡ true) where
-  learned_fit : AllByRecursion (Fit (chosen_from s) s.grid.sized.1) (held s.ledger)
-  learned_fit = fit_since (chosen_from s) s.grid.sized.1 (held s.ledger) fits (held_near s.ledger)
+  learned_fit : AllByRecursion (Fit (chosen_from s) s.grid.few_rows) (held s.ledger)
+  learned_fit = fit_since (chosen_from s) s.grid.few_rows (held s.ledger) fits (held_near s.ledger)
 
   pub whole_told : cut_finding (told s).finding ≡ (told s).finding
-  whole_told = whole_finding (chosen_from s) s.grid.sized.1 (job_limits s) (state_of s) learned_fit
+  whole_told = whole_finding (chosen_from s) s.grid.few_rows (job_limits s) (state_of s) learned_fit
 
   pub still_shaped : (b : ℕ) → all_shaped s.grid.places (run_from (chosen_from s) (job_limits s) b (state_of s)).state.learned ≡ true
-  still_shaped b = since_fit (chosen_from s) s.grid.sized.1 _ (run_fit (chosen_from s) s.grid.sized.1 (job_limits s) b (state_of s) learned_fit)
+  still_shaped b = since_fit (chosen_from s) s.grid.few_rows _ (run_fit (chosen_from s) s.grid.few_rows (job_limits s) b (state_of s) learned_fit)

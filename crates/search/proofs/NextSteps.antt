@@ -1,11 +1,11 @@
 -- What comes next, case by case. Assumes nothing.
-use Rattle.std.proofs.Common.{◌≡◌, ℕ, true, false, eqb, [], ◌∷◌, Some, None, sym, ap, ◌∙◌}
+use Rattle.std.proofs.Common.{◌≡◌, ℕ, eqb, [], ◌∷◌, Some, None, sym, ap, ◌∙◌}
 use Rattle.std.proofs.lemmas.Bool.{cond-true, cond-false, eq-eqb, ne_eqb}
 use Rattle.rules.specs.Sheets.{Limits}
 use Rattle.rules.specs.Grounds.{Setting, Part, Ground, open_places}
-use Rattle.rules.specs.Search.{State, first_ground, ground_at, with_ground, with_best, room, lowest_free, try_place, go_on, after_ground, by_ground, next, ended, full, stepped}
+use Rattle.rules.specs.Search.{State, first_ground, with_best, go_on, after_ground, by_ground, next, ended, stepped}
 use Rattle.search.specs.Settings.{setting}
-use Rattle.search.specs.States.{chosen_from, job_limits, limits_of}
+use Rattle.search.specs.States.{chosen_from, job_limits, limits_of, SameJob}
 use Rattle.search.specs.declared.search.Search.{Search}
 
 module _ (S : Setting) (L : Limits) (σ : State) where
@@ -25,26 +25,6 @@ module _ (S : Setting) (L : Limits) (σ : State) where
   unfolding next
   next_open e some = sym (ap (by_ground S L σ) (sym e) ∙ cond-false (eqb (open_places S σ.part) 0) _ _ (ne_eqb _ 0 some))
 
-  -- at the place set next after t, whose position is p
-  module _ (t : Part) (p : ℕ) (at : open_places S t ≡ p) where
-    pub set_next : (v : ℕ) → Some v ≡ lowest_free S L σ t (S.versions p) → try_place S L σ t (Some v) ≡ go_on S L σ t
-    set_next v e = ap (try_place S L σ t) (e ∙ ap (λ q. lowest_free S L σ t (S.versions q)) (sym at))
-
-    module _ (none : None ≡ lowest_free S L σ t (S.versions p)) (d : Ground) (is : d ≡ ground_at S L σ t) where
-      none_next : try_place S L σ t None ≡ go_on S L σ t
-      none_next = ap (try_place S L σ t) (none ∙ ap (λ q. lowest_free S L σ t (S.versions q)) (sym at))
-
-      pub learn_next : room σ.learned d ≡ true → stepped (with_ground σ t d) ≡ go_on S L σ t
-      learn_next ok =
-          ap (λ g. stepped (with_ground σ t g)) is
-          ∙ sym (cond-true (room σ.learned (ground_at S L σ t)) (stepped (with_ground σ t (ground_at S L σ t))) full (ap (room σ.learned) (sym is) ∙ ok))
-          ∙ none_next
-
-      pub full_next : room σ.learned d ≡ false → full ≡ go_on S L σ t
-      full_next lack =
-          sym (cond-false (room σ.learned (ground_at S L σ t)) (stepped (with_ground σ t (ground_at S L σ t))) full (ap (room σ.learned) (sym is) ∙ lack))
-          ∙ none_next
-
 -- what comes next rests on the grid and the limits
-pub next_kept : (s t : Search) (σ : State) → s.grid ≡ t.grid → s.limits ≡ t.limits → next (chosen_from s) (job_limits s) σ ≡ next (chosen_from t) (job_limits t) σ
-next_kept s t σ p q = ap (λ g. next (setting g) (job_limits s) σ) p ∙ ap (λ l. next (chosen_from t) (limits_of l) σ) q
+pub next_kept : (s t : Search) (σ : State) → SameJob s t → next (chosen_from s) (job_limits s) σ ≡ next (chosen_from t) (job_limits t) σ
+next_kept s t σ same = ap (λ g. next (setting g) (job_limits s) σ) same.0 ∙ ap (λ l. next (chosen_from t) (limits_of l) σ) same.1

@@ -1,5 +1,6 @@
 -- The versions of a part-choice in their table. Assumes nothing.
 use Rattle.std.proofs.Common.{◌≡◌, ℕ, ◌+◌, ◌-◌, ◌<◌, ◌≤◌, List, [], ◌∷◌, length, get_or, take, drop, set, ap, ◌∙◌, arith}
+use Rattle.std.proofs.Math.Seq.{take-set-lt}
 use Rattle.std.proofs.lemmas.List.{drop_all, drop_more, drop-set, length-take-le}
 use Rattle.search.specs.Parts.{versions_of}
 use Rattle.search.specs.declared.part.Part.{Part}
@@ -7,15 +8,14 @@ use Rattle.search.specs.declared.search.Search.{Search}
 use Rattle.search.specs.States.{chosen_from, part_in, above}
 use Rattle.search.proofs.Aboves.{opened_is}
 use Rattle.rules.specs.Grounds.{open_places}
-use Rattle.ledger.proofs.Inserts.{take_set_in}
 
 -- a version put on those above an index
 pub put_on : (vs : List ℕ) (n i v : ℕ) → i < n → n ≤ length vs → drop i (take n (set vs i v)) ≡ v ∷ drop (i + 1) (take n vs)
-put_on vs n i v low long = ap (drop i) (take_set_in vs n i v) ∙ drop-set (take n vs) i v (omega (arith, length-take-le n vs long))
+put_on vs n i v low long = ap (drop i) (take-set-lt n vs i v low) ∙ drop-set (take n vs) i v (omega (arith, length-take-le n vs long))
 
 -- the table of a part-choice has a version for each place of a search
 pub whole_of : (s : Search) (p : Part) → length (versions_of s.grid.places p) ≡ s.grid.places
-whole_of s p = length-take-le s.grid.places p.versions (omega (arith, p.long, s.grid.sized.0))
+whole_of s p = length-take-le s.grid.places p.versions (omega (arith, p.long, s.grid.few_places))
 
 -- how many places are open below an index, and in the part-choice of a search
 pub open_above : (s : Search) (index : ℕ) → index < s.grid.places → open_places (chosen_from s) (above s index) ≡ index + 1

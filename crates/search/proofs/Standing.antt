@@ -1,23 +1,12 @@
 -- The grounds that stand, one line and one ground more at a time. Assumes nothing.
-use Rattle.std.proofs.Common.{◌≡◌, ℕ, zero, suc, ◌+◌, ◌-◌, ◌<◌, ◌≤◌, true, false, ◌&&◌, List, [], ◌∷◌, length, get_or, drop, Some, None, sym, refl, ap, ◌∙◌, ⊎_elim, arith, length-append}
+use Rattle.std.proofs.Common.{◌≡◌, ℕ, zero, suc, ◌+◌, ◌-◌, ◌<◌, ◌≤◌, true, false, List, [], ◌∷◌, length, get_or, drop, Some, None, Option, MatchOption, sym, refl, ap, ◌∙◌, ⊎_elim, arith, length-append}
 use Rattle.std.proofs.lemmas.List.{at_drop_more, at_drop_all, get_or_append_left, get_or-append_right, get_or_push}
-use Rattle.std.proofs.lemmas.Bool.{and_left, cond-true, cond-false, cases_lt}
-use Rattle.rules.specs.declared.lines.Line.{Line}
+use Rattle.std.proofs.lemmas.Bool.{cond-true, cond-false, cases_lt}
 use Rattle.rules.specs.Sheets.{Limits}
-use Rattle.rules.specs.Grounds.{Setting, Part, Ground, line_stands, stands, first_standing, starting, ledger, of_row}
-use Rattle.ledger.specs.Lines.{no_line}
+use Rattle.rules.specs.Grounds.{Setting, Part, Ground, stands, first_standing, starting, ledger, of_row}
+use Rattle.search.specs.States.{picked}
 
 module _ (S : Setting) (L : Limits) (s : Part) where
-  module _ (g : Ground) (i : ℕ) where
-    pub ground_more : i < length g → line_stands S L s (get_or g i no_line) ≡ true → stands S L s (drop i g) ≡ stands S L s (drop (i + 1) g)
-    ground_more within on = at_drop_more (stands S L s) g i no_line within ∙ ap (λ b. b && stands S L s (drop (i + 1) g)) on
-
-    pub ground_fails : i < length g → line_stands S L s (get_or g i no_line) ≡ false → stands S L s (drop i g) ≡ false
-    ground_fails within falls = at_drop_more (stands S L s) g i no_line within ∙ and_left (line_stands S L s (get_or g i no_line)) _ falls
-
-    pub ground_all : length g ≤ i → stands S L s (drop i g) ≡ true
-    ground_all past = at_drop_all (stands S L s) g i past
-
   module _ (gs : List Ground) (i : ℕ) where
     pub first_found : i < length gs → stands S L s (get_or gs i []) ≡ true → first_standing S L (drop i gs) s ≡ Some (get_or gs i [])
     first_found within on = at_drop_more (λ t. first_standing S L t s) gs i [] within ∙ cond-true (stands S L s (get_or gs i [])) _ _ on
@@ -28,9 +17,17 @@ module _ (S : Setting) (L : Limits) (s : Part) where
     pub first_none : length gs ≤ i → first_standing S L (drop i gs) s ≡ None
     first_none past = at_drop_all (λ t. first_standing S L t s) gs i past
 
-  -- a ground of a single line
-  pub single : (l : Line) → line_stands S L s l ≡ stands S L s (l ∷ [])
-  single l = elim (line_stands S L s l) as (λ b. b ≡ (b && true)) [ true ↦ refl | false ↦ refl ]
+  -- the first that stands by its index, those below it not standing
+  module _ (gs : List Ground) where
+    passed : (i : ℕ) → i ≤ length gs → ((k : ℕ) → k < i → stands S L s (get_or gs k []) ≡ false) → first_standing S L gs s ≡ first_standing S L (drop i gs) s
+    passed zero within fall = refl
+    passed (suc i) within fall =
+        let on : i + 1 ≡ suc i = omega arith in
+        passed i (omega arith) (λ k low. fall k (omega arith)) ∙ first_more gs i (omega arith) (fall i (omega arith)) ∙ ap (λ n. first_standing S L (drop n gs) s) on
+
+    pub first_is : (r : Option ℕ) (n : ℕ) → n ≡ length gs → MatchOption r ((k : ℕ) → 0 ≤ k → k < n → stands S L s (get_or gs k []) ≡ false) (λ i. (0 ≤ i) × (i < n) × (stands S L s (get_or gs i []) ≡ true) × ((k : ℕ) → 0 ≤ k → k < i → stands S L s (get_or gs k []) ≡ false)) → picked gs r ≡ first_standing S L gs s
+    first_is None n is fall = sym (passed n (omega arith) (λ k low. fall k (omega arith) low) ∙ first_none gs n (omega arith))
+    first_is (Some i) n is found = sym (passed i (omega (arith, found.1)) (λ k low. found.3 k (omega arith) low) ∙ first_found gs i (omega (arith, found.1)) found.2)
 
 -- the ledger by its index: the starting ground of each row, and then the learned ones
 module _ (S : Setting) (gs : List Ground) where

@@ -1,5 +1,6 @@
 -- What a search has found, by the rules. Assumes nothing.
-use Rattle.std.specs.Prelude.{ℕ, Bool, true, ◌&&◌, List, [], ◌∷◌, take, nat_le}
+use Rattle.std.specs.Prelude.{ℕ, Bool, ◌&&◌, List, take, nat_le}
+use Rattle.std.specs.List.{list_all}
 use Rattle.rules.specs.Bounds.{most_rows}
 use Rattle.rules.specs.Grounds.{Ground}
 use Rattle.rules.specs.Search.{next}
@@ -50,8 +51,7 @@ told s = calls.verdict (state_of s) (next (chosen_from s) (job_limits s) (state_
 
 -- No line of a ground has a level above this.
 abbrev pub levels_to : ℕ → Ground → Bool
-levels_to places [] = true
-levels_to places (l ∷ g) = nat_le l.level places && levels_to places g
+levels_to places g = list_all (λ l. nat_le l.level places) g
 
 -- A ground that can have been learned with so many places: its lines come by row and level, and no level is above the places.
 abbrev pub shaped : ℕ → Ground → Bool
@@ -59,8 +59,7 @@ shaped places g = rising g && levels_to places g
 
 -- Each of some grounds is one.
 abbrev pub all_shaped : ℕ → List Ground → Bool
-all_shaped places [] = true
-all_shaped places (g ∷ gs) = shaped places g && all_shaped places gs
+all_shaped places gs = list_all (shaped places) gs
 
 -- Each learned ground of a search is one.
 abbrev pub learned_shaped : Search → Bool

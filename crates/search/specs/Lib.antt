@@ -2,6 +2,8 @@ pub mod Tables
 pub mod Settings
 pub mod Parts
 pub mod States
+pub mod Listed
+pub mod Trials
 pub mod Nexts
 pub mod Runs
 pub mod Closings

@@ -18,7 +18,7 @@ best_at σ price = record { part = σ.part; best = Some σ.part; cap = price -�
 
 -- The state after a step.
 abbrev pub after : Search → Step → State
-after s (Set index v) = at_part (state_of s) (v ∷ above s index)
+after s (Set pick) = at_part (state_of s) (pick.version ∷ above s pick.index)
 after s (Learn index d) = with_ground (state_of s) (above s index) (drafted d)
 after s (Best price) = best_at (state_of s) price
 
@@ -30,7 +30,7 @@ outcome_of s (Makes step) = stepped (after s step)
 
 -- A step that the tables have space for.
 abbrev pub ReadyStep : Search → Step → Type 0
-ReadyStep s (Set index v) = index < s.grid.places
+ReadyStep s (Set pick) = pick.index < s.grid.places
 ReadyStep s (Learn index d) = (index < s.grid.places) × (room (held s.ledger) (drafted d) ≡ true)
 ReadyStep s (Best price) = unsigned_abs price ≤ reach (most_places + most_places)
 

@@ -1,7 +1,9 @@
 -- A grid as a setting of the rules, and how a setting is made place by place. Assumes nothing.
-use Rattle.std.specs.Prelude.{ℕ, ◌-◌, Bool, cond, ◌&&◌, ℤ, pos, ◌==◌, nat_le, slice_index_or, unsigned_abs}
+use Rattle.std.specs.Prelude.{ℕ, ◌-◌, Bool, cond, ◌&&◌, ℤ, pos, Ok, Err, Result, ◌==◌, nat_le, slice_index_or, unsigned_abs}
 use Rattle.rules.specs.declared.kinds.Kind.{Kind}
 use Rattle.rules.specs.declared.kinds.Kind.TheVariants.{SumAtMost}
+use Rattle.rules.specs.declared.refusals.Refusal.{Refusal}
+use Rattle.rules.specs.declared.refusals.Refusal.TheVariants.{NoSuchRow, PlaceOutOfTurn, VersionsOutside, AmountBeyond}
 use Rattle.rules.specs.Bounds.{greatest_row, greatest_amount, most_versions}
 use Rattle.rules.specs.Joinings.{joining}
 use Rattle.rules.specs.Grounds.{Setting}
@@ -61,18 +63,30 @@ put_amount S row at version z =
       amount = λ r p v. cond (one_position p at && (v == version && r == row)) z (S.amount r p v);
     }
 
--- A row whose kind can be set: each but the price.
-abbrev pub takes_kind : ℕ → Bool
-takes_kind row = nat_le 1 row && nat_le row greatest_row
-
 -- A setting has a position of this number.
 abbrev pub has_position : Setting → ℕ → Bool
 has_position S p = nat_le 1 p && nat_le p S.places
 
--- A position whose versions can be so many.
-abbrev pub takes_versions : Setting → ℕ → ℕ → Bool
-takes_versions S p n = has_position S p && nat_le n most_versions
+-- What follows where something holds, and else a refusal.
+abbrev pub where_holds : {X : Type 0} → Bool → Refusal → Result X Refusal → Result X Refusal
+where_holds holds e r = cond holds r (Err e)
 
--- A row, a position and a version that can have this amount.
-abbrev pub takes_amount : Setting → ℕ → ℕ → ℕ → ℤ → Bool
-takes_amount S row p v z = (nat_le row S.last_row && has_position S p) && (has_version v && nat_le (unsigned_abs z) greatest_amount)
+-- What is told where the kind of a row is set: each row but the price has one that can be.
+abbrev pub kind_told : ℕ → Result (Unit {0}) Refusal
+kind_told row = where_holds (nat_le 1 row && nat_le row greatest_row) NoSuchRow (Ok tt)
+
+-- The index of a position.
+abbrev pub index_told : Setting → ℕ → Result ℕ Refusal
+index_told S p = where_holds (has_position S p) PlaceOutOfTurn (Ok (p - 1))
+
+-- What is told where a position is to have so many versions.
+abbrev pub versions_told : Setting → ℕ → ℕ → Result (Unit {0}) Refusal
+versions_told S p n = where_holds (has_position S p) PlaceOutOfTurn (where_holds (nat_le n most_versions) VersionsOutside (Ok tt))
+
+-- What is told where a row is to have an amount at a position with a version.
+abbrev pub amount_told : Setting → ℕ → ℕ → ℕ → ℤ → Result (Unit {0}) Refusal
+amount_told S row p v z =
+    where_holds (nat_le row S.last_row) NoSuchRow
+    (where_holds (has_position S p) PlaceOutOfTurn
+    (where_holds (has_version v) VersionsOutside
+    (where_holds (nat_le (unsigned_abs z) greatest_amount) AmountBeyond (Ok tt))))

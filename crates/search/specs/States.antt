@@ -1,14 +1,17 @@
 -- A search of the rules in its tables. Assumes nothing.
-use Rattle.std.specs.Prelude.{ℕ, suc, ◌<◌, cond, List, [], ◌∷◌, ℤ, pos, Some, None, Option, ◌==◌, slice_index_or}
+use Rattle.std.specs.Prelude.{◌≡◌, ℕ, suc, ◌+◌, Bool, cond, List, [], ◌∷◌, drop, ℤ, pos, Option, ◌==◌, slice_index_or}
+use Rattle.std.specs.Option.{option_map}
 use Rattle.rules.specs.declared.lines.Line.{Line}
 use Rattle.rules.specs.Sheets.{Limits}
 use Rattle.rules.specs.Choices.{capped}
-use Rattle.rules.specs.Grounds.{Setting, Part, Ground, with_amount, ledger, first_standing, ground_in}
+use Rattle.rules.specs.Grounds.{Setting, Part, Ground, with_amount, joined_above, ledger, first_standing, ground_in}
 use Rattle.rules.specs.Search.{State}
 use Rattle.ledger.specs.Model.{held}
 use Rattle.search.specs.Settings.{setting}
 use Rattle.search.specs.Parts as parts
 use Rattle.search.specs.declared.part as declared
+use Rattle.search.specs.declared.grid.Grid.{Grid}
+use Rattle.search.specs.declared.pick.Pick.{Pick}
 use Rattle.search.specs.declared.search.Search.{Search}
 
 -- A table of limits as limits of the rules.
@@ -41,8 +44,7 @@ above s index = parts.above s.grid.places s.part index
 
 -- The best choice, if there is one, with so many places.
 abbrev pub best_of : ℕ → Option declared.Part.Part → Option Part
-best_of places None = None
-best_of places (Some p) = Some (parts.part_of places p)
+best_of places best = option_map (parts.part_of places) best
 
 -- The best choice of a search, if there is one.
 abbrev pub best_in : Search → Option declared.Part.Part → Option Part
@@ -54,13 +56,15 @@ state_of s = record { part = part_in s s.part; best = best_in s s.best; cap = s.
 
 -- The ground at an index of a list, if an index was found.
 abbrev pub picked : List Ground → Option ℕ → Option Ground
-picked gs None = None
-picked gs (Some i) = Some (slice_index_or gs i [])
+picked gs found = option_map (λ i. slice_index_or gs i []) found
 
--- An index that was found, if one was, is below a number.
-abbrev pub IndexBelow : ℕ → Option ℕ → Type 0
-IndexBelow n None = Unit {0}
-IndexBelow n (Some i) = i < n
+-- What a line comes to at a part-choice: its constant, joined with the amounts of its row at the positions above its level.
+abbrev pub comes_to : Grid → declared.Part.Part → Line → ℤ
+comes_to g p l = joined_above (setting g) l.row l.level l.constant (drop l.level (parts.versions_of g.places p))
+
+-- That is worse than a limit.
+abbrev pub breaks : Grid → declared.Part.Part → Line → ℤ → Bool
+breaks g p l limit = ((setting g).joining l.row).worse (comes_to g p l) limit
 
 -- A line as it is learned at a position from a ground that stands with a version there.
 abbrev pub moved_at : Setting → ℕ → ℕ → Line → Line
@@ -69,6 +73,14 @@ moved_at S p v l =
     (record { row = l.row; level = p; constant = with_amount S l.row p v l.constant })
     l
 
+-- A line as it is learned with a picked version.
+abbrev pub moved_with : Setting → Pick → Line → Line
+moved_with S pick l = moved_at S (pick.index + 1) pick.version l
+
 -- The first ground that stands with a version put on t, and no line where none does.
 abbrev pub pick_of : Search → Part → ℕ → Ground
 pick_of s t v = ground_in (first_standing (chosen_from s) (force s) (grounds s) (v ∷ t))
+
+-- Two searches choose from one grid, under the same limits.
+abbrev pub SameJob : Search → Search → Type 0
+SameJob s t = (s.grid ≡ t.grid) × (s.limits ≡ t.limits)

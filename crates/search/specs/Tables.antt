@@ -1,6 +1,6 @@
 -- How the tables of a grid are read, and what they keep. Assumes nothing.
 use Rattle.std.specs.Prelude.{◌≡◌, ℕ, ◌-◌, ◌<◌, ◌≤◌, Bool, cond, ◌&&◌, List, [], length, get_or, ℤ, pos, nat_le, slice_index_or, slice_set, unsigned_abs}
-use Rattle.rules.specs.Bounds.{most_places, most_versions, most_rows, greatest_row, greatest_amount}
+use Rattle.rules.specs.Bounds.{most_places, most_versions, most_rows, greatest_amount}
 use Rattle.search.specs.declared.position.Amounts.{Amounts}
 use Rattle.search.specs.declared.position.Position.{Position}
 
@@ -11,10 +11,6 @@ no_amounts = record { rows = [] }
 -- A position that there is not.
 abbrev pub no_position : Position
 no_position = record { count = 0; versions = [] }
-
--- There are no more places and rows than there may be.
-abbrev pub Sized : ℕ → ℕ → Type 0
-Sized places last_row = (places ≤ most_places) × (last_row ≤ greatest_row)
 
 -- How many versions the place at a position has.
 abbrev pub count_at : List Position → ℕ → ℕ

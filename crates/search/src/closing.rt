@@ -5,7 +5,8 @@ ghost use Rattle.rules.specs.Bounds.{most_rows};
 use rules::{Line, MOST_ROWS};
 
 // The lines of a closing ground: it lies above all positions, and so has no row twice.
-#[derive(Clone, Copy)]
+// A verdict is copied, so they stand in an array with their count.
+#[derive(Clone, Copy, Debug, PartialEq, Eq)]
 pub struct Closing {
     lines: [Line; MOST_ROWS],
     count: usize,

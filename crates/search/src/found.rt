@@ -3,7 +3,7 @@ use crate::closing::Closing;
 use crate::part::Part;
 
 // Why a run stopped.
-#[derive(Clone, Copy)]
+#[derive(Clone, Copy, Debug, PartialEq, Eq)]
 pub enum Why {
     HasEnded,
     IsFull,
@@ -11,14 +11,14 @@ pub enum Why {
 }
 
 // What a run came to: why it stopped, and the steps that it made.
-#[derive(Clone, Copy)]
+#[derive(Clone, Copy, Debug, PartialEq, Eq)]
 pub struct Ran {
     pub why: Why,
     pub made: u32,
 }
 
-// What a search has found.
-#[derive(Clone, Copy)]
+// What a search has found: the four findings of the rules.
+#[derive(Clone, Copy, Debug, PartialEq, Eq)]
 pub enum Finding {
     // It has ended: the least choice, and the closing ground.
     Least(Part, Closing),
@@ -31,7 +31,7 @@ pub enum Finding {
 }
 
 // What it has found, the steps made, and how many learned grounds there are.
-#[derive(Clone, Copy)]
+#[derive(Clone, Copy, Debug, PartialEq, Eq)]
 pub struct Verdict {
     pub finding: Finding,
     pub steps: u32,

@@ -1,20 +1,22 @@
 // The table of amounts.
-ghost use Rattle.std.specs.Prelude.{◌≡◌, length, slice_index_or};
-ghost use Rattle.rules.specs.Bounds.{most_places};
+ghost use Rattle.std.specs.Prelude.{◌≡◌, ◌≤◌, length, slice_index_or};
+ghost use Rattle.rules.specs.Bounds.{most_places, greatest_row};
 ghost use Rattle.rules.specs.declared.kinds.Kind.TheVariants.{SumAtMost};
-ghost use Rattle.search.specs.Tables.{Sized, Counted, Long, Wide, Near};
+ghost use Rattle.search.specs.Tables.{Counted, Long, Wide, Near};
 
 use crate::position::Position;
 use rules::{Kind, MOST_PLACES, MOST_ROWS};
 
 // What is chosen from, by position: the kinds of the rows, and how many versions each position has, with their amounts.
+// Whole arrays: a kind or an amount may be set past the last row or past the versions of its position, and no position comes or goes.
 #[derive(Drop)]
 pub struct Grid {
     places: usize,
     last_row: usize,
     kinds: [Kind; MOST_ROWS],
     positions: [Position; MOST_PLACES],
-    ghost sized: { Sized places last_row },
+    ghost few_places: { places ≤ most_places },
+    ghost few_rows: { last_row ≤ greatest_row },
     ghost priced: { slice_index_or kinds 0 SumAtMost ≡ SumAtMost },
     ghost whole: { length positions ≡ most_places },
     ghost counted: { Counted positions },

@@ -7,6 +7,7 @@ mod grid;
 mod lines;
 mod next;
 mod part;
+mod pick;
 mod position;
 mod search;
 

@@ -1,11 +1,12 @@
 // What comes next in a search.
+use crate::pick::Pick;
 use ledger::Draft;
 
 // A step of a search; positions go by their index from 0.
 #[derive(Drop)]
 pub(crate) enum Step {
-    // The place at an index takes a version, and those below it are open.
-    Set(usize, u8),
+    // A place takes a version, and those below it are open.
+    Set(Pick),
     // A ground is learned at an index, which is open then.
     Learn(usize, Draft),
     // The choice becomes the best, at this price.

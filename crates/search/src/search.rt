@@ -22,8 +22,8 @@ pub struct Search {
 
 mod by_kind;
 mod findings;
-mod frees;
-mod learning;
+mod grounds;
 mod nexts;
+mod place;
 mod runs;
-mod stands;
+mod trial;

@@ -6,23 +6,14 @@ ghost use Rattle.search.specs.Closings.{closing_of};
 use crate::closing::Closing;
 use rules::{Line, MOST_ROWS};
 
-// What stands in the table where no line is.
-const NO_LINE: Line = Line {
-    row: 0,
-    level: 0,
-    constant: 0,
-};
-
 impl Closing {
     // The first lines of a ground, as many as there can be rows.
     pub(crate) fn of(ground: &[Line]) -> Closing
         ensures { closing_of result ≡ take most_rows ground.now }
     {
-        let mut lines = [NO_LINE; MOST_ROWS];
+        let mut lines = [Line::default(); MOST_ROWS];
         let count = ground.len().min(MOST_ROWS);
-        for index in 0..count {
-            lines[index] = ground[index];
-        }
+        lines[..count].copy_from_slice(&ground[..count]);
         Closing { lines, count }
     }
 

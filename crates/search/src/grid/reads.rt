@@ -5,6 +5,7 @@ ghost use Rattle.rules.specs.declared.kinds.Kind.TheVariants.{SumAtMost};
 ghost use Rattle.search.specs.Settings.{setting};
 
 use crate::grid::Grid;
+use crate::pick::Pick;
 use rules::{Kind, MOST_VERSIONS};
 
 impl Grid {
@@ -24,7 +25,7 @@ impl Grid {
         self.last_row
     }
 
-    // The kind of a row.
+    // The kind of a row. A row stays a plain number, as lines have it: a struct for its bound is no plainer than the clause.
     pub(crate) fn kind(&self, row: u8) -> Kind
         requires { row ≤ greatest_row }
         ensures { result ≡ slice_index_or self.now.kinds row SumAtMost }
@@ -41,16 +42,18 @@ impl Grid {
         self.positions[index].count
     }
 
-    // The amount of a row at an index with a version.
-    pub(crate) fn amount(&self, row: u8, index: usize, version: u8) -> i64
-        requires { (row ≤ greatest_row) × (index < most_places) }
-        ensures is { result ≡ (setting self.now).amount row (index + 1) version }
+    // The amount of a row with a picked version.
+    pub(crate) fn amount(&self, row: u8, pick: Pick) -> i64
+        requires { row ≤ greatest_row }
+        ensures is { result ≡ (setting self.now).amount row (pick.index + 1) pick.version }
         ensures near { unsigned_abs result ≤ greatest_amount }
     {
-        if version < 1 || version > MOST_VERSIONS {
-            return 0;
+        match pick.version {
+            1..=MOST_VERSIONS => {
+                let at = usize::from(pick.version) - 1;
+                i64::from(self.positions[pick.index].versions[at].rows[usize::from(row)])
+            }
+            _ => 0,
         }
-        let at = usize::from(version) - 1;
-        i64::from(self.positions[index].versions[at].rows[usize::from(row)])
     }
 }

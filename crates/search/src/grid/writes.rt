@@ -1,11 +1,12 @@
 // How a grid is made.
-ghost use Rattle.std.specs.Prelude.{◌≡◌, ◌≤◌, min, if◌then◌else◌, unsigned_abs};
+ghost use Rattle.std.specs.Prelude.{◌≡◌, ◌+◌, ◌≤◌, min, OnOk, OnErr, unsigned_abs};
 ghost use Rattle.rules.specs.Bounds.{most_places, most_versions, greatest_row, greatest_amount};
-ghost use Rattle.search.specs.Settings.{setting, blank_setting, put_kind, put_versions, put_amount, takes_kind, takes_versions, takes_amount};
+ghost use Rattle.search.specs.Settings.{setting, blank_setting, put_kind, put_versions, put_amount, kind_told, index_told, versions_told, amount_told};
 
 use crate::grid::Grid;
+use crate::pick::Pick;
 use crate::position::{Amounts, Position, VERSIONS};
-use rules::{GREATEST_AMOUNT, GREATEST_ROW, Kind, MOST_PLACES, MOST_ROWS, MOST_VERSIONS};
+use rules::{GREATEST_AMOUNT, GREATEST_ROW, Kind, MOST_PLACES, MOST_ROWS, MOST_VERSIONS, Refusal};
 
 // What stands in the table for a version that no amount is set for.
 const NO_AMOUNTS: Amounts = Amounts {
@@ -21,7 +22,8 @@ const NO_POSITION: Position = Position {
 impl Grid {
     // A grid with no versions and no amounts, every row being added up.
     fn sized(places: usize, last_row: usize) -> Grid
-        requires { (places ≤ most_places) × (last_row ≤ greatest_row) }
+        requires places { places ≤ most_places }
+        requires rows { last_row ≤ greatest_row }
         ensures { setting result ≡ blank_setting places last_row }
     {
         Grid {
@@ -42,56 +44,80 @@ impl Grid {
         )
     }
 
-    // Sets the kind of a row other than the price; nothing is altered where there can be no such row.
-    pub fn set_kind(&mut self, row: u8, kind: Kind) -> bool
-        ensures told { result ≡ takes_kind row }
-        ensures grid { setting self.new ≡ (if result then put_kind (setting self.old) row kind else setting self.old) }
+    // Sets the kind of a row other than the price, where there can be such a row.
+    pub fn set_kind(&mut self, row: u8, kind: Kind) -> Result<(), Refusal>
+        ensures told { result ≡ kind_told row }
+        ensures set { OnOk result (setting self.new ≡ put_kind (setting self.old) row kind) }
+        ensures refused { OnErr result (self.new ≡ self.old) }
     {
-        if row < 1 || usize::from(row) > GREATEST_ROW {
-            return false;
+        if !(1..=GREATEST_ROW).contains(&usize::from(row)) {
+            return Err(Refusal::NoSuchRow);
         }
         self.kinds[usize::from(row)] = kind;
-        true
+        Ok(())
     }
 
-    // Sets how many versions the place at a position has; nothing is altered where there is no such position, or there can't be so many.
-    pub fn set_versions(&mut self, position: u8, count: u8) -> bool
-        ensures told { result ≡ takes_versions (setting self.old) position count }
-        ensures grid { setting self.new ≡ (if result then put_versions (setting self.old) position count else setting self.old) }
+    // The index of a position, if there is one of that number.
+    fn index_of(&self, position: u8) -> Result<usize, Refusal>
+        ensures { result ≡ index_told (setting self.now) position }
     {
         let index = usize::from(position);
-        if index < 1 || index > self.places || count > MOST_VERSIONS {
-            return false;
+        if !(1..=self.places).contains(&index) {
+            return Err(Refusal::PlaceOutOfTurn);
         }
-        self.positions[index - 1].count = count;
-        true
+        Ok(index - 1)
     }
 
-    // Sets the amount of a row at a position with a version; nothing is altered where there is no such row or position, or there can be no such
-    // version or amount.
-    pub fn set_amount(&mut self, row: u8, position: u8, version: u8, amount: i64) -> bool
-        ensures told { result ≡ takes_amount (setting self.old) row position version amount }
-        ensures grid { setting self.new ≡ (if result then put_amount (setting self.old) row position version amount else setting self.old) }
+    // Sets how many versions the place at a position has, where there is such a position, and there can be so many.
+    pub fn set_versions(&mut self, position: u8, count: u8) -> Result<(), Refusal>
+        ensures told { result ≡ versions_told (setting self.old) position count }
+        ensures set { OnOk result (setting self.new ≡ put_versions (setting self.old) position count) }
+        ensures refused { OnErr result (self.new ≡ self.old) }
     {
-        let index = usize::from(position);
-        if usize::from(row) > self.last_row || index < 1 || index > self.places {
-            return false;
+        let index = self.index_of(position)?;
+        if count > MOST_VERSIONS {
+            return Err(Refusal::VersionsOutside);
         }
-        if version < 1 || version > MOST_VERSIONS || amount.unsigned_abs() > GREATEST_AMOUNT {
-            return false;
-        }
-        self.put_amount(row, position, version, amount as i32);
-        true
+        self.positions[index].count = count;
+        Ok(())
     }
 
-    // Writes the amount of a row at a position with a version.
-    fn put_amount(&mut self, row: u8, position: u8, version: u8, amount: i32)
-        requires there { (row ≤ greatest_row) × ((1 ≤ position) × ((position ≤ most_places) × ((1 ≤ version) × (version ≤ most_versions)))) }
+    // Sets the amount of a row at a position with a version, where there are such a row and position, and there can be such a version and
+    // amount.
+    pub fn set_amount(
+        &mut self,
+        row: u8,
+        position: u8,
+        version: u8,
+        amount: i64,
+    ) -> Result<(), Refusal>
+        ensures told { result ≡ amount_told (setting self.old) row position version amount }
+        ensures set { OnOk result (setting self.new ≡ put_amount (setting self.old) row position version amount) }
+        ensures refused { OnErr result (self.new ≡ self.old) }
+    {
+        if usize::from(row) > self.last_row {
+            return Err(Refusal::NoSuchRow);
+        }
+        let index = self.index_of(position)?;
+        if !(1..=MOST_VERSIONS).contains(&version) {
+            return Err(Refusal::VersionsOutside);
+        }
+        if amount.unsigned_abs() > GREATEST_AMOUNT {
+            return Err(Refusal::AmountBeyond);
+        }
+        self.put_amount(row, Pick { index, version }, amount as i32);
+        Ok(())
+    }
+
+    // Writes the amount of a row with a picked version.
+    fn put_amount(&mut self, row: u8, pick: Pick, amount: i32)
+        requires row { row ≤ greatest_row }
+        requires some { 1 ≤ pick.version }
+        requires few { pick.version ≤ most_versions }
         requires near { unsigned_abs amount ≤ greatest_amount }
-        ensures { setting self.new ≡ put_amount (setting self.old) row position version amount }
+        ensures { setting self.new ≡ put_amount (setting self.old) row (pick.index + 1) pick.version amount }
     {
-        let index = usize::from(position) - 1;
-        let at = usize::from(version) - 1;
-        self.positions[index].versions[at].rows[usize::from(row)] = amount;
+        let at = usize::from(pick.version) - 1;
+        self.positions[pick.index].versions[at].rows[usize::from(row)] = amount;
     }
 }

@@ -4,6 +4,7 @@ ghost use Rattle.rules.specs.Bounds.{most_places};
 ghost use Rattle.search.specs.Parts.{part_of, above};
 
 use crate::part::Part;
+use crate::pick::Pick;
 use rules::MOST_PLACES;
 
 impl Part {
@@ -29,11 +30,7 @@ impl Part {
     pub fn version(&self, index: usize) -> u8
         ensures { result ≡ slice_index self.now.versions index }
     {
-        if index < MOST_PLACES {
-            self.versions[index]
-        } else {
-            0
-        }
+        self.versions.get(index).copied().unwrap_or(0)
     }
 
     // The same with so many places open.
@@ -45,17 +42,16 @@ impl Part {
         Part { versions, opened }
     }
 
-    // The same with a version at an index, and the places below it open.
-    pub(crate) fn with(self, index: usize, version: u8) -> Part
-        requires { index < most_places }
-        ensures opened { result.opened ≡ index }
-        ensures part { (n : ℕ) → index < n → n ≤ most_places → part_of n result ≡ version ∷ above n self index }
+    // The same with a version picked for a place, and the places below it open.
+    pub(crate) fn with(self, pick: Pick) -> Part
+        ensures opened { result.opened ≡ pick.index }
+        ensures part { (n : ℕ) → pick.index < n → n ≤ most_places → part_of n result ≡ pick.version ∷ above n self pick.index }
     {
         let mut versions = self.versions;
-        versions[index] = version;
+        versions[pick.index] = pick.version;
         Part {
             versions,
-            opened: index,
+            opened: pick.index,
         }
     }
 }

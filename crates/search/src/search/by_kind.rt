@@ -1,18 +1,28 @@
 // What is done with one line, by the kind of its row: here a kind becomes its joining.
-ghost use Rattle.std.specs.Prelude.{◌≡◌, ◌+◌, ◌<◌, ◌≤◌, [], ◌∷◌, drop};
-ghost use Rattle.rules.specs.Bounds.{most_places, greatest_row};
-ghost use Rattle.rules.specs.Grounds.{joined_above, of_row, with_line};
+ghost use Rattle.std.specs.Prelude.{◌≡◌, ◌≤◌, [], ◌∷◌};
+ghost use Rattle.rules.specs.Bounds.{greatest_row};
+ghost use Rattle.rules.specs.Grounds.{of_row, with_line};
 ghost use Rattle.ledger.specs.Drafted.{drafted};
-ghost use Rattle.ledger.specs.Lines.{Near};
-ghost use Rattle.search.specs.Parts.{versions_of};
-ghost use Rattle.search.specs.States.{chosen_from, force, moved_at};
+ghost use Rattle.search.specs.States.{chosen_from, force, breaks, moved_with};
 
-use crate::lines::{breaks, put_moved, starting_line};
+use crate::lines::{LineIn, NearLine};
 use crate::part::Part;
+use crate::pick::Pick;
 use crate::search::Search;
 use joining::{GreatestAtMost, SumAtLeast, SumAtMost};
 use ledger::Draft;
-use rules::{Kind, Line};
+use rules::Kind;
+
+// A call at the joining of a kind. A macro, since no value stands for a type: so kinds become types here alone.
+macro_rules! at_joining {
+    ($kind:expr, $of:ident $($call:tt)*) => {
+        match $kind {
+            Kind::SumAtMost => $of::<SumAtMost>$($call)*,
+            Kind::SumAtLeast => $of::<SumAtLeast>$($call)*,
+            Kind::GreatestAtMost => $of::<GreatestAtMost>$($call)*,
+        }
+    };
+}
 
 impl Search {
     // The limit of a row in force; the search has its own cap on the price.
@@ -28,42 +38,33 @@ impl Search {
     }
 
     // The single line of the starting ground of a row.
-    pub(super) fn starting_line(&self, row: u8) -> Line
+    pub(super) fn starting_line(&self, row: u8) -> NearLine
         requires { row ≤ greatest_row }
-        ensures is { result ∷ [] ≡ of_row (chosen_from self.now) row }
-        ensures near { Near result }
+        ensures { result.line ∷ [] ≡ of_row (chosen_from self.now) row }
     {
-        match self.grid.kind(row) {
-            Kind::SumAtMost => starting_line::<SumAtMost>(row),
-            Kind::SumAtLeast => starting_line::<SumAtLeast>(row),
-            Kind::GreatestAtMost => starting_line::<GreatestAtMost>(row),
-        }
+        let line = at_joining!(self.grid.kind(row), LineIn::starting(row));
+        NearLine { line }
     }
 
     // Whether the constant of a line, joined with the amounts above its level, is worse than the limit of its row.
-    pub(super) fn breaks_limit(&self, part: &Part, line: Line) -> bool
-        requires { Near line }
-        ensures { result ≡ ((chosen_from self.now).joining line.row).worse (joined_above (chosen_from self.now) line.row line.level line.constant (drop line.level (versions_of self.now.grid.places part.now))) (force self.now line.row) }
+    pub(super) fn breaks_limit(&self, part: &Part, near: NearLine) -> bool
+        ensures { result ≡ breaks self.now.grid part.now near.line (force self.now near.line.row) }
     {
-        let limit = self.limit(line.row);
-        match self.grid.kind(line.row) {
-            Kind::SumAtMost => breaks::<SumAtMost>(&self.grid, part, line, limit),
-            Kind::SumAtLeast => breaks::<SumAtLeast>(&self.grid, part, line, limit),
-            Kind::GreatestAtMost => breaks::<GreatestAtMost>(&self.grid, part, line, limit),
-        }
+        let row = near.line.row;
+        let limit = self.limit(row);
+        at_joining!(
+            self.grid.kind(row),
+            LineIn::new(&self.grid, near).breaks(part, limit)
+        )
     }
 
-    // Adds a line to a draft as it is learned at an index from a ground that stands with a version there.
-    pub(super) fn put_line(&self, draft: &mut Draft, index: usize, version: u8, line: Line)
-        requires { (index < most_places) × (Near line) }
-        ensures { drafted draft.new ≡ with_line (chosen_from self.now) (moved_at (chosen_from self.now) (index + 1) version line) (drafted draft.old) }
+    // Adds a line to a draft as it is learned from a ground that stands with a picked version.
+    pub(super) fn put_line(&self, draft: &mut Draft, pick: Pick, near: NearLine)
+        ensures { let S = chosen_from self.now in drafted draft.new ≡ with_line S (moved_with S pick near.line) (drafted draft.old) }
     {
-        match self.grid.kind(line.row) {
-            Kind::SumAtMost => put_moved::<SumAtMost>(&self.grid, draft, index, version, line),
-            Kind::SumAtLeast => put_moved::<SumAtLeast>(&self.grid, draft, index, version, line),
-            Kind::GreatestAtMost => {
-                put_moved::<GreatestAtMost>(&self.grid, draft, index, version, line);
-            }
-        }
+        at_joining!(
+            self.grid.kind(near.line.row),
+            LineIn::new(&self.grid, near).put_moved(draft, pick)
+        );
     }
 }

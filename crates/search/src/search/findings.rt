@@ -1,9 +1,6 @@
 // What a search has found.
-ghost use Rattle.std.specs.Prelude.{◌≡◌, true, [], take, slice_index_or};
-ghost use Rattle.rules.specs.Bounds.{most_rows};
-ghost use Rattle.search.specs.Closings.{closing_of};
+ghost use Rattle.std.specs.Prelude.{◌≡◌, true};
 ghost use Rattle.search.specs.Findings.{finding_of, verdict_of, cut_finding, cut_verdict, told, learned_shaped};
-ghost use Rattle.search.specs.States.{grounds};
 
 use crate::closing::Closing;
 use crate::found::{Finding, Verdict};
@@ -14,24 +11,13 @@ use ledger::Ledger;
 use rules::MOST_ROWS;
 
 impl Search {
-    // The lines of the ground at an index of the ledger, as many as there can be rows.
-    fn closing(&self, index: usize) -> Closing
-        ensures { closing_of result ≡ take most_rows (slice_index_or (grounds self.now) index []) }
-    {
-        let last = self.grid.last_row();
-        if index <= last {
-            return Closing::of(&[self.starting_line(index as u8)]);
-        }
-        Closing::of(self.ledger.ground(index - last - 1))
-    }
-
     // What the search has found.
     fn finding(&self) -> Finding
         ensures { finding_of self.now result ≡ cut_finding (told self.now).finding }
     {
         match self.next() {
             Next::Ended(ground) => {
-                let closing = self.closing(ground);
+                let closing = Closing::of(self.ground(ground).lines());
                 match self.best {
                     Some(choice) => Finding::Least(choice, closing),
                     None => Finding::Nothing(closing),
@@ -56,7 +42,9 @@ impl Search {
 
     // Gives back the grid, the limits and the ledger.
     pub fn take_apart(self) -> (Grid, [i64; MOST_ROWS], Ledger)
-        ensures { (result.0 ≡ self.grid) × ((result.1 ≡ self.limits) × (result.2 ≡ self.ledger)) }
+        ensures grid { result.0 ≡ self.grid }
+        ensures limits { result.1 ≡ self.limits }
+        ensures ledger { result.2 ≡ self.ledger }
     {
         let Search {
             grid,

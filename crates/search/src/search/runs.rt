@@ -6,7 +6,7 @@ ghost use Rattle.rules.specs.Calls.{run as run_call, run_from, reply};
 ghost use Rattle.ledger.specs.Drafted.{drafted};
 ghost use Rattle.ledger.specs.Model.{held};
 ghost use Rattle.search.specs.Settings.{setting};
-ghost use Rattle.search.specs.States.{chosen_from, limits_of, job_limits, state_of};
+ghost use Rattle.search.specs.States.{chosen_from, limits_of, job_limits, state_of, SameJob};
 ghost use Rattle.search.specs.Findings.{learned_shaped};
 ghost use Rattle.search.specs.Nexts.{after, ReadyStep};
 ghost use Rattle.search.specs.Runs.{ran_of, running_of, run_answer};
@@ -31,7 +31,8 @@ impl Search {
     // Begins a search.
     pub fn start(grid: Grid, limits: [i64; MOST_ROWS], ledger: Ledger) -> Search
         ensures state { state_of result ≡ started (setting grid) (limits_of limits) (held ledger) }
-        ensures kept { (result.grid ≡ grid) × (result.limits ≡ limits) }
+        ensures grid { result.grid ≡ grid }
+        ensures limits { result.limits ≡ limits }
     {
         let cap = limits[0];
         Search {
@@ -51,11 +52,11 @@ impl Search {
         requires few { self.old.steps < most_steps }
         ensures state { state_of self.new ≡ after self.old step }
         ensures count { self.new.steps ≡ self.old.steps + 1 }
-        ensures kept { (self.new.grid ≡ self.old.grid) × (self.new.limits ≡ self.old.limits) }
+        ensures kept { SameJob self.new self.old }
     {
         match step {
-            Step::Set(index, version) => {
-                self.part = self.part.with(index, version);
+            Step::Set(pick) => {
+                self.part = self.part.with(pick);
             }
             Step::Learn(index, draft) => {
                 add_ground(&mut self.ledger, &draft);
@@ -73,7 +74,7 @@ impl Search {
     fn run_on(&mut self, budget: u32) -> Ran
         requires { self.old.steps + budget ≤ most_steps }
         ensures ran { ran_of result (state_of self.new) ≡ run_from (chosen_from self.old) (job_limits self.old) budget (state_of self.old) }
-        ensures kept { (self.new.grid ≡ self.old.grid) × (self.new.limits ≡ self.old.limits) }
+        ensures kept { SameJob self.new self.old }
     {
         let mut made = 0;
         loop {
@@ -95,10 +96,10 @@ impl Search {
     pub fn run(&mut self, budget: u32) -> Result<Ran, Refusal>
         ensures answer { run_answer result ≡ (reply (chosen_from self.old) (running_of self.old) (run_call (pos budget))).answer }
         ensures job { running_of self.new ≡ (reply (chosen_from self.old) (running_of self.old) (run_call (pos budget))).job }
-        ensures kept { (self.new.grid ≡ self.old.grid) × (self.new.limits ≡ self.old.limits) }
+        ensures kept { SameJob self.new self.old }
         ensures shaped { learned_shaped self.old ≡ true → learned_shaped self.new ≡ true }
     {
-        if u64::from(self.steps) + u64::from(budget) > u64::from(MOST_STEPS) {
+        if self.steps.saturating_add(budget) > MOST_STEPS {
             return Err(Refusal::BudgetBeyond);
         }
         Ok(self.run_on(budget))

@@ -1,11 +1,11 @@
-use Rattle.std.proofs.Common.{ℕ, ap, ◌∙◌}
-use Rattle.rules.specs.Calls.{Finding}
-use Rattle.search.specs.Findings.{told, cut_verdict}
+use Rattle.std.proofs.Common.{◌≡◌, ◌∙◌}
+use Rattle.search.specs.Findings.{told, finding_of}
 use Rattle.search.proofs.GroundShapes.{whole_told}
 use Rattle.search.proofs.search.Search.verdict.Goals as goal
 
-pub returns : goal.returns
-returns c =
+pub returns-clause-whole : goal.returns-clause-whole
+returns-clause-whole c = λ shaped.
     let s = c.args.self.now in
-    let cut = ap (λ (f : Finding). record { finding = f; steps = s.steps; held = c.count.result }) c.finding.ensures ∙ ap (λ (n : ℕ). record { finding = (cut_verdict (told s)).finding; steps = s.steps; held = n }) c.count.ensures.is in
-    record { cut = cut; whole = λ h. cut ∙ ap (λ (f : Finding). record { finding = f; steps = s.steps; held = (told s).held }) (whole_told s h) }
+    let held = c.count.ensures.is in
+    let found : finding_of s c.finding.result ≡ (told s).finding = c.finding.ensures ∙ whole_told s shaped in
+    cc

@@ -1,0 +1,19 @@
+use Rattle.std.proofs.Common.{◌≡◌, ◌+◌, ◌-◌, ◌≤◌, drop, None}
+use Rattle.rules.specs.Search.{lowest_free}
+use Rattle.search.specs.States.{chosen_from, job_limits, grounds, state_of}
+use Rattle.search.specs.Trials.{first_at, above_place}
+use Rattle.search.proofs.search.place.Place.free_version.Given as goal
+
+abbrev pub invariant-loop-ground : goal.invariant-loop-ground
+invariant-loop-ground l =
+    let gs = grounds l.trial.search.now in
+    first_at l.trial gs ≡ first_at l.trial (drop l.ground gs)
+
+abbrev pub invariant-versions : goal.invariant-versions
+invariant-versions l =
+    let s = l.self.search.now in
+    record {
+      none : l.free ≡ None;
+      below : lowest_free (chosen_from s) (job_limits s) (state_of s) (above_place l.self) (l.version - 1) ≡ None;
+      last : l.version ≤ l.version-end + 1;
+    }

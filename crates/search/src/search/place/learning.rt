@@ -1,0 +1,50 @@
+// How a ground is learned.
+ghost use Rattle.std.specs.Prelude.{◌≡◌, ◌+◌, map};
+ghost use Rattle.rules.specs.Grounds.{with_lines};
+ghost use Rattle.rules.specs.Search.{ground_at};
+ghost use Rattle.ledger.specs.Drafted.{drafted};
+ghost use Rattle.ledger.specs.Lines.{AllNear};
+ghost use Rattle.search.specs.States.{chosen_from, job_limits, state_of, moved_at, moved_with, pick_of};
+ghost use Rattle.search.specs.Trials.{above_place};
+
+use crate::lines::NearLine;
+use crate::pick::Pick;
+use crate::search::place::Place;
+use ledger::Draft;
+use rules::Line;
+
+impl Place<'_> {
+    // Adds the lines of a ground to a draft as they are learned with a picked version.
+    fn put_lines(&self, draft: &mut Draft, pick: Pick, ground: &[Line])
+        requires { AllNear ground.now }
+        ensures { let S = chosen_from self.now.search.now in drafted draft.new ≡ with_lines S (map (moved_with S pick) ground.now) (drafted draft.old) }
+    {
+        for line in ground {
+            self.search.put_line(draft, pick, NearLine { line: *line });
+        }
+    }
+
+    // Adds the first ground that stands with a version to a draft.
+    fn put_version(&self, draft: &mut Draft, version: u8)
+        ensures { let S = chosen_from self.now.search.now in drafted draft.new ≡ with_lines S (map (moved_at S (self.now.index + 1) version) (pick_of self.now.search.now (above_place self.now) version)) (drafted draft.old) }
+    {
+        if let Some(index) = self.trial(version).first_standing() {
+            let pick = Pick {
+                index: self.index,
+                version,
+            };
+            self.put_lines(draft, pick, self.search.ground(index).lines());
+        }
+    }
+
+    // The ground that is learned at the place.
+    pub(crate) fn learn(&self) -> Draft
+        ensures { let s = self.now.search.now in drafted result ≡ ground_at (chosen_from s) (job_limits s) (state_of s) (above_place self.now) }
+    {
+        let mut draft = Draft::empty();
+        for version in 1..=self.search.grid.versions(self.index) {
+            self.put_version(&mut draft, version);
+        }
+        draft
+    }
+}
