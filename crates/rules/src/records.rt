@@ -1,6 +1,7 @@
 // Calls as records.
 
-// What a record asks: the code of a call, and the row and the number that it is about.
+// What a record asks: the code of a call, and the row and the number that it is about. The code stays plain, since one
+// that there isn't is answered too.
 #[derive(Clone, Copy, Debug, Default, PartialEq, Eq)]
 pub struct Request {
     pub code: u8,
@@ -8,7 +9,7 @@ pub struct Request {
     pub number: i32,
 }
 
-// A request with its answer: 0, or the number of the refusal.
+// A request with its answer: 0, or the number of the refusal, as a record has it.
 #[derive(Clone, Copy, Debug, Default, PartialEq, Eq)]
 pub struct CallRecord {
     pub request: Request,

@@ -77,7 +77,8 @@ impl fmt::Display for Refusal {
 
 impl Error for Refusal {}
 
-// A refusal with the place where it was met, as plain numbers; a number that says nothing is 0.
+// A refusal with the place where it was met; a number that says nothing is 0. All are plain numbers, as a job keeps its
+// fault and a report tells it.
 #[derive(Clone, Copy, Debug, PartialEq, Eq)]
 pub struct Fault {
     pub layer: u8,

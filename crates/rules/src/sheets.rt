@@ -1,14 +1,16 @@
 // Sheets: what is asked of a set.
 use crate::bounds::{GREATEST_ROW, MOST_PLACES};
 
-// A row other than the price: the number of its kind, and its limit.
+// A row other than the price: the number of its kind, and its limit. The number stays plain, since one that stands for
+// no kind is a fault of the opening and must be sayable.
 #[derive(Clone, Copy, Debug, Default, PartialEq, Eq)]
 pub struct Row {
     pub kind: u8,
     pub limit: i32,
 }
 
-// The counts, kinds, limits and order of a job. Nothing is tested here: opening a job tests all of it.
+// The counts, kinds, limits and order of a job. Nothing is tested here: opening a job tests all of it. So the counts are
+// not the lengths of the tables: one that lies outside must be sayable too.
 #[derive(Clone, Copy)]
 pub struct Sheet {
     pub places: u8,
