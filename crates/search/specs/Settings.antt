@@ -1,5 +1,5 @@
 -- A grid as a setting of the rules, and how a setting is made place by place. Assumes nothing.
-use Rattle.std.specs.Prelude.{ℕ, ◌-◌, Bool, cond, ◌&&◌, ℤ, pos, Ok, Err, Result, ◌==◌, nat_le, slice_index_or, unsigned_abs}
+use Rattle.std.specs.Prelude.{ℕ, ◌-◌, Bool, cond, if◌then◌else◌, ◌&&◌, ℤ, pos, Ok, Err, Result, ◌==◌, nat_le, slice_index_or, unsigned_abs}
 use Rattle.rules.specs.declared.kinds.Kind.{Kind}
 use Rattle.rules.specs.declared.kinds.Kind.TheVariants.{SumAtMost}
 use Rattle.rules.specs.declared.refusals.Refusal.{Refusal}
@@ -69,7 +69,7 @@ has_position S p = nat_le 1 p && nat_le p S.places
 
 -- What follows where something holds, and else a refusal.
 abbrev pub where_holds : {X : Type 0} → Bool → Refusal → Result X Refusal → Result X Refusal
-where_holds holds e r = cond holds r (Err e)
+where_holds holds e r = if holds then r else Err e
 
 -- What is told where the kind of a row is set: each row but the price has one that can be.
 abbrev pub kind_told : ℕ → Result (Unit {0}) Refusal

@@ -50,8 +50,8 @@ impl<'g, J: Joining> LineIn<'g, J> {
         J::join(constant, self.grid.amount(self.line.row, pick))
     }
 
-    // The constant, joined with the amounts of the row at the positions above the level; by index from the top down, which versions and
-    // amounts go by, with the constant within reach at each.
+    // The constant, joined with the amounts of the row at the positions above the level, from the top one down.
+    // A loop by index: versions and amounts both go by it, and a fold leaves open that the constant so far is within reach.
     pub(crate) fn joined_above(&self, part: &Part) -> i64
         ensures is { result ≡ comes_to self.now.grid.now part.now self.now.line }
         ensures near { unsigned_abs result ≤ reach (most_places + most_places) }
