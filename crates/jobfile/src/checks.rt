@@ -54,7 +54,7 @@ pub(crate) fn check_sheet(n: u8, m: u8, cap: i32, at: u16) -> Result<(), Fault>
 pub(crate) fn check_row(kind: u8, limit: i32, at: u16) -> Result<(), Fault>
     ensures { result ≡ after_tests (first_fault (row_tests kind limit at)) tt }
 {
-    if Kind::numbered(kind).is_none() {
+    if Kind::try_from(kind).is_err() {
         return Err(fault_at(Refusal::UnknownKind, at));
     }
     if limit.unsigned_abs() > GREATEST_LIMIT {
