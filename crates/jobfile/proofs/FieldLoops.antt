@@ -5,13 +5,11 @@ use Rattle.std.proofs.lemmas.Bool.{cond-true, cond-false, eq-eqb, ne_eqb}
 use Rattle.rules.specs.declared.refusals.Fault.{Fault}
 use Rattle.jobfile.specs.declared.reader.Reader.{Reader}
 use Rattle.jobfile.specs.Reading.{Reading, read_field, read_fields, then}
-use Rattle.jobfile.specs.Readers.{AtEnd, MovedOn, SoundIn, field_between, front_of, told}
+use Rattle.jobfile.specs.Readers.{AtEnd, MovedOn, field_between, front_of, told}
 
 -- what is left of a file from where the reader is comes to a result
 pub record SoFar (file : List ℕ) (goal : Result Reading Fault) (r : Reader) : Type 0 where
   pub same : r.file.now ≡ file
-  pub within : r.at ≤ length file
-  pub sound : SoundIn r.section r.at r
   -- no more fields are left than this
   pub most : ℕ
   pub enough : length file ≤ r.at + most
@@ -36,8 +34,6 @@ module _ (file : List ℕ) (goal : Result Reading Fault) (r : Reader) (before : 
       let on : r.at + (after.at - r.at) ≡ after.at = omega (arith, moved.on) in
       record {
         same = moved.same;
-        within = omega (arith, moved.within, ap length moved.same);
-        sound = moved.sound;
         most = b.0;
         enough = omega (arith, s.enough, b.1, moved.on);
         leads = ap₂ (λ xs k. read_fields b.0 (front_of after) xs k) (sym (drop-drop (after.at - r.at) r.at file ∙ ap (λ k. drop k file) on)) (sym on) ∙ b.2;
@@ -51,4 +47,4 @@ nothing_left (suc most) s bs at e = cond-true (eqb (length bs) 0) _ _ (eq-eqb _ 
 pub fields_end : (file : List ℕ) (goal : Result Reading Fault) (r : Reader) → length file ≤ r.at → SoFar file goal r → (Ok (front_of r) ≡ goal) × AtEnd file r
 fields_end file goal r past s =
     let none : length (drop r.at file) ≡ 0 = length-drop r.at file ∙ omega arith in
-    (sym (nothing_left s.most (front_of r) (drop r.at file) r.at none) ∙ s.leads, record { same = s.same; ends = omega (arith, s.within, past); sound = s.sound })
+    (sym (nothing_left s.most (front_of r) (drop r.at file) r.at none) ∙ s.leads, record { same = s.same; ends = omega (arith, r.within, ap length s.same, past) })

@@ -1,17 +1,22 @@
 -- A field, by its head and what its rest comes to. Assumes nothing.
-use Rattle.std.proofs.Common.{◌≡◌, ℕ, ◌+◌, ◌-◌, ◌*◌, ◌<◌, ◌≤◌, leb, List, length, get_or, take, drop, Some, Err, Result, sym, ap, ◌∙◌, ap₂}
+use Rattle.std.proofs.Common.{◌≡◌, ℕ, ◌+◌, ◌-◌, ◌*◌, ◌<◌, ◌≤◌, ◌⊎◌, Bool, true, false, cond, ◌&&◌, eqb, ltb, leb, List, [], length, get_or, take, drop, Some, None, Err, Option, Result, sym, refl, ap, ◌∙◌, ap₂, subst, inl, inr, arith}
 use Rattle.std.proofs.lemmas.List.{drop-drop, length-take-le, take_rest}
 use Rattle.std.proofs.lemmas.Bool.{cond-true, cond-false, le-leb, lt-leb}
 use Rattle.rules.specs.declared.refusals.Fault.{Fault}
 use Rattle.rules.specs.declared.refusals.Refusal.TheVariants.{FieldCut}
 use Rattle.rules.specs.Refusals.{fault_in}
-use Rattle.rules.specs.Sheets.{last_row}
+use Rattle.rules.specs.Sheets.{last_row, order_of}
 use Rattle.jobfile.specs.declared.fields.Field.{Field}
+use Rattle.jobfile.specs.declared.fields.Field.TheVariants as field
 use Rattle.jobfile.specs.declared.fields.Section.{Section}
 use Rattle.jobfile.specs.declared.fields.Section.TheVariants as section
 use Rattle.jobfile.specs.declared.reader.Reader.{Reader}
-use Rattle.jobfile.specs.Reading.{Reading, announced_with, read_announced, read_field, read_rest}
-use Rattle.jobfile.specs.Readers.{Sound, SoundIn, field_between, front_job, front_of, told}
+use Rattle.jobfile.specs.declared.job.Job.{Job}
+use Rattle.jobfile.specs.CallTables.{calls_of}
+use Rattle.jobfile.specs.InMemory.{ladders_of, listed_of}
+use Rattle.jobfile.specs.Stated.{Stated}
+use Rattle.jobfile.specs.Reading.{Announced, FieldRead, Reading, announced_with, early, next, read_announced, read_field, read_rest}
+use Rattle.jobfile.specs.Readers.{SameButSection, field_between, front_job, front_of, told}
 
 -- what is left of a file from a byte on, and of that behind a head
 pub from_byte : (file : List ℕ) (n at : ℕ) → n ≡ at → take (length file - n) (drop n file) ≡ drop at file
@@ -23,23 +28,84 @@ behind_head file rest at is = take_rest rest 3 ∙ ap (drop 3) is ∙ drop-drop 
 pub head_cut : (s : Reading) (bs : List ℕ) (at : ℕ) (f : Fault) → length bs < 3 → f ≡ fault_in FieldCut at 0 0 0 → Err f ≡ read_field s bs at
 head_cut s bs at f short is = ap Err is ∙ sym (cond-false (leb 3 (length bs)) _ _ (lt-leb 3 (length bs) short))
 
--- the reader in the section that was entered
-abbrev pub in_section : Reader → Section → Reader
-in_section r c = record { file = r.file; at = r.at; section = c; rows = r.rows; ordered = r.ordered; job = r.job }
+-- no field but the order's alters whether the order has come
+abbrev Keeps : Section → Announced → Type 0
+Keeps c p = (p.field ≡ field.Order) ⊎ (early p.section ≡ early c)
 
-pub field_step : (r after : Reader) (c : Section) (f : Field) (bs : List ℕ) (size : ℕ) (tail : List ℕ) (answer : Result (Unit {0}) Fault) → 3 ≤ length bs → r.rows ≤ length r.job.sheet.rows → size ≡ get_or bs 1 0 * 256 + get_or bs 2 0 → tail ≡ drop 3 bs → announced_with r.rows (last_row r.job.sheet) r.section (get_or bs 0 0) ≡ Some (record { field = f; section = c }) → told answer (field_between (in_section r c) after) ≡ read_rest (front_job (in_section r c)) (record { field = f; section = c }) size tail r.at → told answer (field_between r after) ≡ read_field (front_of r) bs r.at
-field_step r after c f bs size tail answer long rows length-is tail-is said e =
-    let counted = length-take-le r.rows r.job.sheet.rows rows in
-    let announced = ap (λ k. announced_with k (last_row r.job.sheet) r.section (get_or bs 0 0)) counted ∙ said in
-    e
-    ∙ ap₂ (λ n t. read_rest (front_job r) (record { field = f; section = c }) n t r.at) length-is tail-is
-    ∙ sym (ap (λ o. read_announced (front_job r) o (get_or bs 1 0 * 256 + get_or bs 2 0) (drop 3 bs) r.at) announced)
-    ∙ sym (cond-true (leb 3 (length bs)) _ _ (le-leb 3 (length bs) long))
+kept_or : (b : Bool) (c : Section) (f : Field) (d : Section) (o : Option Announced) (p : Announced) → Keeps c (record { field = f; section = d }) → (o ≡ Some p → Keeps c p) → cond b (next f d) o ≡ Some p → Keeps c p
+kept_or true c f d o p k g e = let same : record { field = f; section = d } ≡ p = cc in subst (Keeps c) same k
+kept_or false c f d o p k g e = g e
 
--- what holds in a section holds at all times
-pub always : (c : Section) (at : ℕ) (r : Reader) → SoundIn c at r → Sound r.file.now r.rows r.ordered r.job
-always section.Start at r h = h.0
-always section.Rows at r h = h.0
-always section.Versions at r h = h.0
-always section.Ladders at r h = h.0
-always section.Calls at r h = h.0
+none_kept : (c : Section) (p : Announced) → None ≡ Some p → Keeps c p
+none_kept c p e = let z : ◌≡◌ {A = ℕ} 0 1 = cc in absurd (omega arith)
+
+order_kept : (rows m tag : ℕ) (c : Section) (p : Announced) → announced_with rows m c tag ≡ Some p → Keeps c p
+order_kept rows m tag section.Start p = kept_or (eqb tag 1) section.Start field.Sheet section.Rows None p (inr refl) (none_kept section.Start p)
+order_kept rows m tag section.Rows p =
+    let orders = cond (eqb tag 3 && eqb rows m) (next field.Order section.Versions) None in
+    kept_or (eqb tag 2 && ltb rows m) section.Rows field.Row section.Rows orders p (inr refl)
+    (kept_or (eqb tag 3 && eqb rows m) section.Rows field.Order section.Versions None p (inl refl) (none_kept section.Rows p))
+order_kept rows m tag section.Versions p =
+    let calls = cond (eqb tag 6) (next field.Call section.Calls) None in
+    let ladders = cond (eqb tag 5) (next field.Ladder section.Ladders) calls in
+    kept_or (eqb tag 4) section.Versions field.Version section.Versions ladders p (inr refl)
+    (kept_or (eqb tag 5) section.Versions field.Ladder section.Ladders calls p (inr refl) (kept_or (eqb tag 6) section.Versions field.Call section.Calls None p (inr refl) (none_kept section.Versions p)))
+order_kept rows m tag section.Ladders p =
+    let calls = cond (eqb tag 6) (next field.Call section.Calls) None in
+    kept_or (eqb tag 5) section.Ladders field.Ladder section.Ladders calls p (inr refl) (kept_or (eqb tag 6) section.Ladders field.Call section.Calls None p (inr refl) (none_kept section.Ladders p))
+order_kept rows m tag section.Calls p = kept_or (eqb tag 6) section.Calls field.Call section.Calls None p (inr refl) (none_kept section.Calls p)
+
+-- the front of a job, by what a reader has of it and the order
+abbrev front : List ℕ → ℕ → Job → List ℕ → Stated
+front file rows j order =
+    record {
+      places = j.sheet.places;
+      last_row = j.sheet.last_row;
+      cap = j.sheet.cap;
+      rows = take rows j.sheet.rows;
+      order = order;
+      listed = listed_of file j.listing;
+      ladders = ladders_of j.ladder;
+      calls = calls_of j.calls;
+    }
+
+-- what the rest of a field comes to, where only the order's own field may meet another order before it
+abbrev pub with_order : Stated → List ℕ → Stated
+with_order j order = record { places = j.places; last_row = j.last_row; cap = j.cap; rows = j.rows; order = order; listed = j.listed; ladders = j.ladders; calls = j.calls }
+
+any_order : (j : Stated) (xs ys : List ℕ) (f : Field) (c : Section) (size : ℕ) (tail : List ℕ) (at : ℕ) → f ≡ field.Order → read_rest (with_order j xs) (record { field = f; section = c }) size tail at ≡ read_rest (with_order j ys) (record { field = f; section = c }) size tail at
+any_order j xs ys field.Order c size tail at e = refl
+any_order j xs ys field.Sheet c size tail at e = let z : ◌≡◌ {A = ℕ} 0 1 = cc in absurd (omega arith)
+any_order j xs ys field.Row c size tail at e = let z : ◌≡◌ {A = ℕ} 0 1 = cc in absurd (omega arith)
+any_order j xs ys field.Version c size tail at e = let z : ◌≡◌ {A = ℕ} 0 1 = cc in absurd (omega arith)
+any_order j xs ys field.Ladder c size tail at e = let z : ◌≡◌ {A = ℕ} 0 1 = cc in absurd (omega arith)
+any_order j xs ys field.Call c size tail at e = let z : ◌≡◌ {A = ℕ} 0 1 = cc in absurd (omega arith)
+
+-- a field by its head, where the reader r has entered the section after it and is s then
+module _ (r s : Reader) (f : Field) (size : ℕ) (tail : List ℕ) (same : SameButSection r s) where
+  abbrev p : Announced
+  p = record { field = f; section = s.section }
+
+  rest_same : (tag : ℕ) → announced_with r.rows (last_row r.job.sheet) r.section tag ≡ Some p → read_rest (front_job s) p size tail s.at ≡ read_rest (front_job r) p size tail r.at
+  rest_same tag said =
+      let order : Bool → Job → List ℕ = λ b j. cond b [] (order_of j.sheet) in
+      let rest : List ℕ → ℕ → ℕ → Job → Bool → Result FieldRead Fault = λ file at rows j b. read_rest (front file rows j (order b j)) p size tail at in
+      let first : rest s.file.now s.at s.rows s.job (early s.section) ≡ rest r.file.now r.at r.rows r.job (early s.section) =
+      ap (λ b. rest b.now s.at s.rows s.job (early s.section)) same.file
+      ∙ ap₂ (λ at rows. rest r.file.now at rows s.job (early s.section)) same.at same.rows
+      ∙ ap (λ j. rest r.file.now r.at r.rows j (early s.section)) same.job in
+      first ∙ elim (order_kept r.rows (last_row r.job.sheet) tag r.section p said) [
+        | inl e ↦ any_order (front_job r) (order (early s.section) r.job) (order (early r.section) r.job) f s.section size tail r.at e
+        | inr e ↦ ap (λ b. rest r.file.now r.at r.rows r.job b) e
+      ]
+
+  pub field_step : (after : Reader) (bs : List ℕ) (answer : Result (Unit {0}) Fault) → 3 ≤ length bs → size ≡ get_or bs 1 0 * 256 + get_or bs 2 0 → tail ≡ drop 3 bs → announced_with r.rows (last_row r.job.sheet) r.section (get_or bs 0 0) ≡ Some p → told answer (field_between s after) ≡ read_rest (front_job s) p size tail s.at → told answer (field_between r after) ≡ read_field (front_of r) bs r.at
+  field_step after bs answer long length-is tail-is said e =
+      let counted = length-take-le r.rows r.job.sheet.rows (omega (arith, r.sound.rows_read, r.sound.row_table, r.sound.few_rows)) in
+      let announced = ap (λ k. announced_with k (last_row r.job.sheet) r.section (get_or bs 0 0)) counted ∙ said in
+      ap (λ at. told answer (record { size = after.at - at; reading = front_of after })) (sym same.at)
+      ∙ e
+      ∙ rest_same (get_or bs 0 0) said
+      ∙ ap₂ (λ n t. read_rest (front_job r) p n t r.at) length-is tail-is
+      ∙ sym (ap (λ o. read_announced (front_job r) o (get_or bs 1 0 * 256 + get_or bs 2 0) (drop 3 bs) r.at) announced)
+      ∙ sym (cond-true (leb 3 (length bs)) _ _ (le-leb 3 (length bs) long))

@@ -1,4 +1,5 @@
 pub mod TestLoops
+pub mod Counted
 pub mod Codec
 pub mod Rungs
 pub mod Decoding

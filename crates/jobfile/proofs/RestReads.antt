@@ -7,7 +7,7 @@ use Rattle.jobfile.specs.declared.fields.Field.{Field}
 use Rattle.jobfile.specs.declared.reader.Reader.{Reader}
 use Rattle.jobfile.specs.Stated.{Stated}
 use Rattle.jobfile.specs.Reading.{FieldRead, after_tests, content_tests, decode, field_length, read_rest, with_entry}
-use Rattle.jobfile.specs.Readers.{BodyAt, BodyRead, front_job, told}
+use Rattle.jobfile.specs.Readers.{BodyRead, Due, InTurn, front_job, told}
 
 -- what is made of an answer is made of what the tests came to
 told_made : {X Y : Type 0} (g : X → Y) (answer : Result (Unit {0}) Fault) (x y : X) (o : Option Fault) → told answer x ≡ after_tests o y → told answer (g x) ≡ after_tests o (g y)
@@ -29,10 +29,12 @@ module _ (r : Reader) (f : Field) (size : ℕ) (tail : List ℕ) where
       ∙ sym (cond-true (eqb size (field_length (front_job r) f)) _ _ (eq-eqb size (field_length (front_job r) f) fit))
 
 -- the body of a field lies behind its head
-pub body_there : (r : Reader) (size n : ℕ) (tail : List ℕ) → n ≡ size → tail ≡ drop (r.at + 3) r.file.now → r.at + 3 ≤ length r.file.now → size ≤ length tail → BodyAt r (take n tail)
-body_there r size n tail same is there long =
-    let cut : length (take n tail) ≡ n = length-take n tail ∙ omega arith in
+pub due_there : (r : Reader) (f : Field) (size : ℕ) (tail : List ℕ) → InTurn r f → size ≡ field_length (front_job r) f → tail ≡ drop (r.at + 3) r.file.now → r.at + 3 ≤ length r.file.now → size ≤ length tail → Due r f (take size tail)
+due_there r f size tail turn fits is there long =
+    let cut : length (take size tail) ≡ size = length-take size tail ∙ omega arith in
     record {
+      turn = turn;
+      fits = cut ∙ fits;
       there = omega (arith, cut, ap length is, length-drop (r.at + 3) r.file.now);
       is = ap₂ (λ k xs. take k xs) (sym cut) is;
     }

@@ -20,7 +20,7 @@ ladder_of_place rows p = record { count = p.count; rungs = rungs_of rows p.rungs
 
 -- The places of a ladder.
 abbrev pub ladders_of : Ladder → List LadderStated
-ladders_of l = map (ladder_of_place l.rows) (take l.filled l.places)
+ladders_of l = map (ladder_of_place l.rows) l.places.items
 
 -- The amounts in the version field that begins at a byte.
 abbrev pub amounts_at : List ℕ → ℕ → ℕ → List ℤ
@@ -32,4 +32,4 @@ versions_of bs rows p = map (λ before. amounts_at bs rows (behind rows p before
 
 -- The places of a listing over these bytes.
 abbrev pub listed_of : List ℕ → Listing → List PlaceStated
-listed_of bs l = map (versions_of bs l.rows) (take l.filled l.places)
+listed_of bs l = map (versions_of bs l.rows) l.places.items
