@@ -1,3 +1,4 @@
+pub mod Places
 pub mod Ladder
 pub mod Listed
 pub mod Beside

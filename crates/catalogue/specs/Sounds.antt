@@ -1,14 +1,16 @@
 -- The meanings of the delivered catalogues keep the bounds. Assumes nothing.
-use Rattle.std.specs.Prelude.{◌≡◌, ℕ, zero, suc, ◌+◌, ◌-◌, ◌*◌, ◌^◌, ◌<◌, ◌≤◌, List, ℤ, pos, negsuc, ◌*ℤ◌, neg_ℤ, nat_le, unsigned_abs, refl}
+-- It stands in specs/ and not in proofs/, since an implementation's law may name only specs/.
+use Rattle.std.specs.Prelude.{◌≡◌, ℕ, zero, suc, ◌+◌, ◌-◌, ◌*◌, ◌^◌, ◌<◌, ◌≤◌, List, length, slice_index_or, All, ℤ, pos, negsuc, ◌*ℤ◌, neg_ℤ, nat_le, unsigned_abs, refl}
 use Rattle.std.proofs.Common.{⊎_elim, mul-le-mul, arith}
 use Rattle.std.proofs.lemmas.Int.{ints}
 use Rattle.std.proofs.lemmas.Bool.{leb-true, leb-false, cond_both, cases_Bool}
 use Rattle.rules.specs.Bounds.{most_versions, amount_reach}
 use Rattle.rules.specs.Catalogues.{Meaning, SoundMeaning, rung}
 use Rattle.catalogue.specs.Beside.{besides}
-use Rattle.catalogue.specs.Ladder.{Counted, EachCounted, ladder_meaning, rung_at}
+use Rattle.catalogue.specs.Places.{Counted, Versions}
+use Rattle.catalogue.specs.Ladder.{ladder_meaning, no_place, rung_at}
 use Rattle.rules.specs.Numbers.{number_at}
-use Rattle.catalogue.specs.Listed.{Bytes, EachListed, amount_start, listed_at, listed_meaning}
+use Rattle.catalogue.specs.Listed.{Bytes, amount_start, listed_at, listed_meaning, no_listed}
 use Rattle.catalogue.specs.declared.rung.Rung.{Rung}
 use Rattle.catalogue.specs.declared.ladder.LadderPlace.{LadderPlace}
 use Rattle.catalogue.specs.declared.listed.ListedPlace.{ListedPlace}
@@ -61,29 +63,34 @@ times_near k step small near =
 rung_near : (g : Rung) (v : ℕ) → v < 2 ^ 8 → unsigned_abs (rung g.base g.step v) ≤ amount_reach
 rung_near g v small = let climb = times_near (v - 1) g.step (omega arith) g.near.1 in omega (arith, ints, g.near.0)
 
--- A ladder's meaning keeps the bounds of a catalogue.
-pub ladder_sound : (rows filled : ℕ) (places : List LadderPlace) → Counted rows filled → EachCounted filled places → SoundMeaning (ladder_meaning rows filled places)
-ladder_sound rows filled places counts each = record {
-  few_places = counts.2;
-  some_row = counts.0;
-  few_rows = counts.1;
-  some_version = λ q from to. (each q from to).0;
-  few_versions = λ q from to. (each q from to).1;
-  near = λ row q v _ from to _ last.
-      let few = (each q from to).1 in rung_near (rung_at places row q) v (omega arith);
-}
-
 -- A number in four bytes lies within reach.
 number_near : (bs : List ℕ) (i : ℕ) → Bytes bs → unsigned_abs (number_at bs i) ≤ amount_reach
 number_near bs i small = omega (arith, ints, small i, small (i + 1), small (i + 2), small (i + 3))
 
+-- A meaning by a list of places keeps the bounds, if its amounts lie within reach.
+module _ {P : Type 0} (count : P → ℕ) (none : P) (rows : ℕ) (places : List P) (amount : ℕ → ℕ → ℕ → ℤ) (counts : Counted rows (length places)) (each : All (λ p. Versions (count p)) places) where
+  abbrev versions_at : ℕ → ℕ
+  versions_at q = count (slice_index_or places (q - 1) none)
+
+  versions_kept : (q : ℕ) → 1 ≤ q → q ≤ length places → Versions (versions_at q)
+  versions_kept q from to = each (q - 1) none (omega arith)
+
+  places_sound : ((row q v : ℕ) → v ≤ most_versions → unsigned_abs (amount row q v) ≤ amount_reach) → SoundMeaning (record { places = length places; rows = rows; versions = versions_at; amount = amount })
+  places_sound near = record {
+    few_places = counts.2;
+    some_row = counts.0;
+    few_rows = counts.1;
+    some_version = λ q from to. (versions_kept q from to).0;
+    few_versions = λ q from to. (versions_kept q from to).1;
+    near = λ row q v _ from to _ last. let few = (versions_kept q from to).1 in near row q v (omega arith);
+  }
+
+-- A ladder's meaning keeps the bounds of a catalogue.
+pub ladder_sound : (rows : ℕ) (places : List LadderPlace) → Counted rows (length places) → All (λ p. Versions p.count) places → SoundMeaning (ladder_meaning rows places)
+ladder_sound rows places counts each =
+    places_sound (λ p. p.count) no_place rows places _ counts each (λ row q v few. rung_near (rung_at places row q) v (omega arith))
+
 -- A listed catalogue's meaning keeps the bounds of a catalogue.
-pub listed_sound : (bs : List ℕ) (rows filled : ℕ) (places : List ListedPlace) → Counted rows filled → EachListed filled places → Bytes bs → SoundMeaning (listed_meaning bs rows filled places)
-listed_sound bs rows filled places counts each small = record {
-  few_places = counts.2;
-  some_row = counts.0;
-  few_rows = counts.1;
-  some_version = λ q from to. (each q from to).0;
-  few_versions = λ q from to. (each q from to).1;
-  near = λ row q v _ _ _ _ _. number_near bs (amount_start rows (listed_at places q) row v) small;
-}
+pub listed_sound : (bs : List ℕ) (rows : ℕ) (places : List ListedPlace) → Counted rows (length places) → All (λ p. Versions p.count) places → Bytes bs → SoundMeaning (listed_meaning bs rows places)
+listed_sound bs rows places counts each small =
+    places_sound (λ p. p.count) no_listed rows places _ counts each (λ row q v _. number_near bs (amount_start rows (listed_at places q) row v) small)

@@ -7,6 +7,7 @@ ghost use Rattle.rules.specs.Catalogues.{Meaning, SoundMeaning, versions_told, a
 mod beside;
 mod ladder;
 mod listed;
+mod places;
 mod rung;
 
 pub use beside::Beside;
@@ -18,9 +19,6 @@ pub use rung::Rung;
 pub trait Catalogue {
     // What the catalogue means.
     ghost meaning: { Self → Meaning };
-
-    // What whoever supplies a catalogue shows of it.
-    ghost sound: { (x : Self) → SoundMeaning (meaning x) };
 
     // How many places there are.
     fn places(&self) -> u8
@@ -37,6 +35,9 @@ pub trait Catalogue {
     // The amount of a row at a place with a version, and none if there is no such amount.
     fn amount(&self, row: u8, place: u8, version: u8) -> Option<i64>
         ensures { result ≡ amount_told (meaning self.now) row place version };
+
+    // What whoever supplies a catalogue shows of it.
+    ghost sound: { (x : Self) → SoundMeaning (meaning x) };
 }
 
 #[cfg(test)]

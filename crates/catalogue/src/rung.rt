@@ -11,6 +11,15 @@ pub struct Rung {
     ghost near: { (unsigned_abs base ≤ 2 ^ 31) × (unsigned_abs step ≤ 2 ^ 31) },
 }
 
+// A rung at 0; by hand, since no derive reaches a struct with a ghost field.
+impl Default for Rung {
+    ghost is_default = { λ rung. (rung.base ≡ pos 0) × (rung.step ≡ pos 0) };
+
+    fn default() -> Rung {
+        Rung { base: 0, step: 0 }
+    }
+}
+
 // So many steps, worked out in 64 bits without loss.
 fn steps(count: u8, step: i32) -> i64
     ensures is { result ≡ pos count *ℤ step }

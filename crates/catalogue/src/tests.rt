@@ -1,5 +1,5 @@
 use super::*;
-use rules::{MOST_PLACES, MOST_ROWS, MOST_VERSIONS};
+use rules::{MOST_PLACES, MOST_ROWS, MOST_VERSIONS, Refusal};
 use std::process::Abort;
 use std::test::Fail;
 
@@ -10,11 +10,14 @@ fn in_each_row(base: i32, step: i32) -> [Rung; MOST_ROWS] {
 
 // A ladder with so many places, each with two versions; the base of a place is its number more than the one given.
 fn ladder(rt: &impl Abort, rows: u8, places: u8, base: i32) -> Result<Ladder, Fail> {
-    let Some(mut made) = Ladder::new(rows) else {
+    let Ok(mut made) = Ladder::new(rows) else {
         return Err(Fail::new("no ladder has so many rows"));
     };
     for place in 1..=places {
-        assert!(rt; made.add(2, in_each_row(base.wrapping_add(i32::from(place)), 5)));
+        assert_eq!(rt;
+            made.add(2, in_each_row(base.wrapping_add(i32::from(place)), 5)),
+            Ok(())
+        );
     }
     Ok(made)
 }
@@ -27,7 +30,7 @@ fn amounts_on_a_rung(rt: HostRuntime) -> Result<(), Fail> {
         base: i32::MAX,
         step: i32::MIN,
     };
-    assert!(rt; made.add(MOST_VERSIONS, rungs));
+    assert_eq!(rt; made.add(MOST_VERSIONS, rungs), Ok(()));
     assert_eq!(rt; made.places(), 1);
     assert_eq!(rt; made.rows(), 2);
     assert_eq!(rt; made.versions(1), Some(MOST_VERSIONS));
@@ -63,14 +66,23 @@ fn none_outside(rt: HostRuntime) -> Result<(), Fail> {
 
 #[test]
 fn refused_at_the_bounds(rt: HostRuntime) -> Result<(), Fail> {
-    assert!(rt; Ladder::new(0).is_none());
-    assert!(rt; Ladder::new(10).is_none());
+    assert_eq!(rt; Ladder::new(0).err(), Some(Refusal::CountOutside));
+    assert_eq!(rt; Ladder::new(10).err(), Some(Refusal::CountOutside));
     let mut made = ladder(&rt, 9, 15, 0)?;
-    assert!(rt; !made.add(0, in_each_row(1, 1)));
-    assert!(rt; !made.add(MOST_VERSIONS + 1, in_each_row(1, 1)));
+    assert_eq!(rt;
+        made.add(0, in_each_row(1, 1)),
+        Err(Refusal::VersionsOutside)
+    );
+    assert_eq!(rt;
+        made.add(MOST_VERSIONS + 1, in_each_row(1, 1)),
+        Err(Refusal::VersionsOutside)
+    );
     assert_eq!(rt; made.places(), 15);
-    assert!(rt; made.add(MOST_VERSIONS, in_each_row(1, 1)));
-    assert!(rt; !made.add(1, in_each_row(7, 7)));
+    assert_eq!(rt; made.add(MOST_VERSIONS, in_each_row(1, 1)), Ok(()));
+    assert_eq!(rt;
+        made.add(1, in_each_row(7, 7)),
+        Err(Refusal::PlaceOutOfTurn)
+    );
     assert_eq!(rt; made.places(), MOST_PLACES as u8);
     assert_eq!(rt; made.versions(16), Some(MOST_VERSIONS));
     assert_eq!(rt; made.amount(8, 16, 2), Some(2));
@@ -99,7 +111,7 @@ const FIELDS: &[u8; 39] =
 
 // A listing with no place yet.
 fn listing(end: usize, rows: u8) -> Result<Listing, Fail> {
-    let Some(made) = Listing::new(end, rows) else {
+    let Ok(made) = Listing::new(end, rows) else {
         return Err(Fail::new("no listing has so many rows"));
     };
     Ok(made)
@@ -108,12 +120,12 @@ fn listing(end: usize, rows: u8) -> Result<Listing, Fail> {
 #[test]
 fn amounts_in_version_fields(rt: HostRuntime) -> Result<(), Fail> {
     let mut places = listing(FIELDS.len(), 2)?;
-    assert!(rt; !places.add_version());
-    assert!(rt; places.add_place(3));
-    assert!(rt; places.add_version());
-    assert!(rt; !places.add_place(28));
-    assert!(rt; places.add_place(27));
-    assert!(rt; !places.add_version());
+    assert_eq!(rt; places.add_version(), Err(Refusal::PlaceOutOfTurn));
+    assert_eq!(rt; places.add_place(3), Ok(()));
+    assert_eq!(rt; places.add_version(), Ok(()));
+    assert_eq!(rt; places.add_place(28), Err(Refusal::FieldCut));
+    assert_eq!(rt; places.add_place(27), Ok(()));
+    assert_eq!(rt; places.add_version(), Err(Refusal::FieldCut));
     let made = Listed::new(FIELDS, places);
     assert_eq!(rt; made.places(), 2);
     assert_eq!(rt; made.rows(), 2);
@@ -139,19 +151,19 @@ fn amounts_in_version_fields(rt: HostRuntime) -> Result<(), Fail> {
 
 #[test]
 fn listings_refused_at_the_bounds(rt: HostRuntime) -> Result<(), Fail> {
-    assert!(rt; Listing::new(400, 0).is_none());
-    assert!(rt; Listing::new(400, 10).is_none());
+    assert_eq!(rt; Listing::new(400, 0).err(), Some(Refusal::CountOutside));
+    assert_eq!(rt; Listing::new(400, 10).err(), Some(Refusal::CountOutside));
     let mut places = listing(400, 1)?;
-    assert!(rt; !places.add_place(usize::MAX));
-    assert!(rt; places.add_place(0));
+    assert_eq!(rt; places.add_place(usize::MAX), Err(Refusal::FieldCut));
+    assert_eq!(rt; places.add_place(0), Ok(()));
     for _ in 1..MOST_VERSIONS {
-        assert!(rt; places.add_version());
+        assert_eq!(rt; places.add_version(), Ok(()));
     }
-    assert!(rt; !places.add_version());
+    assert_eq!(rt; places.add_version(), Err(Refusal::VersionsOutside));
     for _ in 1..MOST_PLACES {
-        assert!(rt; places.add_place(392));
+        assert_eq!(rt; places.add_place(392), Ok(()));
     }
-    assert!(rt; !places.add_place(0));
+    assert_eq!(rt; places.add_place(0), Err(Refusal::PlaceOutOfTurn));
     let bytes = [1; 4];
     let made = Listed::new(&bytes, places);
     assert_eq!(rt; made.places(), MOST_PLACES as u8);
