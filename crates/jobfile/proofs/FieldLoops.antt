@@ -4,7 +4,7 @@ use Rattle.std.proofs.lemmas.List.{drop-drop}
 use Rattle.std.proofs.lemmas.Bool.{cond-true, cond-false, eq-eqb, ne_eqb}
 use Rattle.rules.specs.declared.refusals.Fault.{Fault}
 use Rattle.jobfile.specs.declared.reader.Reader.{Reader}
-use Rattle.jobfile.specs.Reading.{Reading, read_field, read_fields, then}
+use Rattle.jobfile.specs.Reading.{Reading, read_field, read_fields, and_then}
 use Rattle.jobfile.specs.Readers.{AtEnd, MovedOn, field_between, front_of, told}
 
 -- what is left of a file from where the reader is comes to a result
@@ -16,12 +16,12 @@ pub record SoFar (file : List ℕ) (goal : Result Reading Fault) (r : Reader) : 
   pub leads : read_fields most (front_of r) (drop r.at file) r.at ≡ goal
 
 module _ (file : List ℕ) (goal : Result Reading Fault) (r : Reader) (before : r.at < length file) where
-  one_more : (most : ℕ) → read_fields (suc most) (front_of r) (drop r.at file) r.at ≡ then (read_field (front_of r) (drop r.at file) r.at) (λ p. read_fields most p.reading (drop p.size (drop r.at file)) (r.at + p.size))
+  one_more : (most : ℕ) → read_fields (suc most) (front_of r) (drop r.at file) r.at ≡ and_then (read_field (front_of r) (drop r.at file) r.at) (λ p. read_fields most p.reading (drop p.size (drop r.at file)) (r.at + p.size))
   one_more most = cond-false (eqb (length (drop r.at file)) 0) _ _ (ne_eqb _ _ (λ e. omega (arith, length-drop r.at file)))
 
-  by_field : (most : ℕ) (answer : Result (Unit {0}) Fault) (after : Reader) → length file ≤ r.at + most → read_fields most (front_of r) (drop r.at file) r.at ≡ goal → told answer (field_between r after) ≡ read_field (front_of r) (drop r.at file) r.at → (m : ℕ) × (most ≡ suc m) × (then (told answer (field_between r after)) (λ p. read_fields m p.reading (drop p.size (drop r.at file)) (r.at + p.size)) ≡ goal)
+  by_field : (most : ℕ) (answer : Result (Unit {0}) Fault) (after : Reader) → length file ≤ r.at + most → read_fields most (front_of r) (drop r.at file) r.at ≡ goal → told answer (field_between r after) ≡ read_field (front_of r) (drop r.at file) r.at → (m : ℕ) × (most ≡ suc m) × (and_then (told answer (field_between r after)) (λ p. read_fields m p.reading (drop p.size (drop r.at file)) (r.at + p.size)) ≡ goal)
   by_field zero answer after l h e = absurd (omega arith)
-  by_field (suc m) answer after l h e = (m, refl, ap (λ o. then o (λ p. read_fields m p.reading (drop p.size (drop r.at file)) (r.at + p.size))) e ∙ sym (one_more m) ∙ h)
+  by_field (suc m) answer after l h e = (m, refl, ap (λ o. and_then o (λ p. read_fields m p.reading (drop p.size (drop r.at file)) (r.at + p.size))) e ∙ sym (one_more m) ∙ h)
 
   -- a field that fails
   pub field_fails : (f : Fault) (after : Reader) → SoFar file goal r → told {X = Unit {0}} (Err f) (field_between r after) ≡ read_field (front_of r) (drop r.at file) r.at → Err f ≡ goal

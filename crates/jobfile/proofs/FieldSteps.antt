@@ -1,10 +1,8 @@
 -- A field, by its head and what its rest comes to. Assumes nothing.
-use Rattle.std.proofs.Common.{◌≡◌, ℕ, ◌+◌, ◌-◌, ◌*◌, ◌<◌, ◌≤◌, ◌⊎◌, Bool, true, false, cond, ◌&&◌, eqb, ltb, leb, List, [], length, get_or, take, drop, Some, None, Err, Option, Result, sym, refl, ap, ◌∙◌, ap₂, subst, inl, inr, arith}
-use Rattle.std.proofs.lemmas.List.{drop-drop, length-take-le, take_rest}
-use Rattle.std.proofs.lemmas.Bool.{cond-true, cond-false, le-leb, lt-leb}
+use Rattle.std.proofs.Common.{◌≡◌, ℕ, ◌+◌, ◌-◌, ◌*◌, ◌≤◌, ◌⊎◌, Bool, true, false, cond, ◌&&◌, eqb, ltb, leb, List, [], length, get_or, take, drop, Some, None, Option, Result, sym, refl, ap, ◌∙◌, ap₂, subst, inl, inr, arith}
+use Rattle.std.proofs.lemmas.List.{length-take-le, take_rest}
+use Rattle.std.proofs.lemmas.Bool.{cond-true, le-leb}
 use Rattle.rules.specs.declared.refusals.Fault.{Fault}
-use Rattle.rules.specs.declared.refusals.Refusal.TheVariants.{FieldCut}
-use Rattle.rules.specs.Refusals.{fault_in}
 use Rattle.rules.specs.Sheets.{last_row, order_of}
 use Rattle.jobfile.specs.declared.fields.Field.{Field}
 use Rattle.jobfile.specs.declared.fields.Field.TheVariants as field
@@ -15,18 +13,12 @@ use Rattle.jobfile.specs.declared.job.Job.{Job}
 use Rattle.jobfile.specs.CallTables.{calls_of}
 use Rattle.jobfile.specs.InMemory.{ladders_of, listed_of}
 use Rattle.jobfile.specs.Stated.{Stated}
-use Rattle.jobfile.specs.Reading.{Announced, FieldRead, Reading, announced_with, early, next, read_announced, read_field, read_rest}
+use Rattle.jobfile.specs.Reading.{Announced, FieldRead, announced_with, early, next, read_announced, read_field, read_rest}
 use Rattle.jobfile.specs.Readers.{SameButSection, field_between, front_job, front_of, told}
 
--- what is left of a file from a byte on, and of that behind a head
+-- what is left of a file from a byte on
 pub from_byte : (file : List ℕ) (n at : ℕ) → n ≡ at → take (length file - n) (drop n file) ≡ drop at file
 from_byte file n at same = take_rest file n ∙ ap (λ k. drop k file) same
-
-pub behind_head : (file rest : List ℕ) (at : ℕ) → rest ≡ drop at file → take (length rest - 3) (drop 3 rest) ≡ drop (at + 3) file
-behind_head file rest at is = take_rest rest 3 ∙ ap (drop 3) is ∙ drop-drop 3 at file
-
-pub head_cut : (s : Reading) (bs : List ℕ) (at : ℕ) (f : Fault) → length bs < 3 → f ≡ fault_in FieldCut at 0 0 0 → Err f ≡ read_field s bs at
-head_cut s bs at f short is = ap Err is ∙ sym (cond-false (leb 3 (length bs)) _ _ (lt-leb 3 (length bs) short))
 
 -- no field but the order's alters whether the order has come
 abbrev Keeps : Section → Announced → Type 0

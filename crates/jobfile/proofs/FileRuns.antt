@@ -6,7 +6,7 @@ use Rattle.std.proofs.lemmas.Bool.{eqb-true, ne_eqb, cond-true, cond-false}
 use Rattle.rules.specs.declared.refusals.Fault.{Fault}
 use Rattle.rules.proofs.Bools.{split}
 use Rattle.jobfile.specs.Writing.{Entry, field_bytes, bytes_of}
-use Rattle.jobfile.specs.Reading.{Reading, FieldRead, then, read_field, read_fields}
+use Rattle.jobfile.specs.Reading.{Reading, FieldRead, and_then, read_field, read_fields}
 use Rattle.jobfile.proofs.Codec.{Bytes}
 use Rattle.jobfile.proofs.FieldReads.{Takes, refused_ok, entry_reads, field_reads}
 
@@ -24,11 +24,11 @@ runs_read (suc most) {at} {s} {t} (go {u = u} {e = e} {es = es} k r) h =
     let whole = length-append (field_bytes e) (bytes_of es) in
     let more : FieldRead → Result Reading Fault = λ p. read_fields most p.reading (drop p.size (field_bytes e ++ bytes_of es)) (at + p.size) in
     cond-false (eqb (length (field_bytes e ++ bytes_of es)) 0) _ _ (ne_eqb _ 0 (λ z. omega (arith, whole)))
-    ∙ ap (λ o. then o more) (entry_reads at s e u (bytes_of es) k)
+    ∙ ap (λ o. and_then o more) (entry_reads at s e u (bytes_of es) k)
     ∙ ap (λ bs. read_fields most u bs (at + length (field_bytes e))) (drop_at (field_bytes e) (bytes_of es) (length (field_bytes e)) refl)
     ∙ runs_read most r (omega (arith, whole))
 
-pub passed_then : {X Y : Type 0} (o : Result X Fault) (f : X → Result Y Fault) (y : Y) → then o f ≡ Ok y → (x : X) × (o ≡ Ok x) × (f x ≡ Ok y)
+pub passed_then : {X Y : Type 0} (o : Result X Fault) (f : X → Result Y Fault) (y : Y) → and_then o f ≡ Ok y → (x : X) × (o ≡ Ok x) × (f x ≡ Ok y)
 passed_then (Ok x) f y e = (x, refl, e)
 passed_then (Err x) f y e = absurd (refused_ok e)
 

@@ -55,7 +55,7 @@ module _ (r : Reader) (body : List ℕ) where
       let here = ap (λ k. rungs_of k gs) r.sound.same_rows.ladder ∙ is in
       let with_ladders : List LadderStated → Stated = λ ls. record { places = (front_job r).places; last_row = (front_job r).last_row; cap = (front_job r).cap; rows = (front_job r).rows; order = (front_job r).order; listed = (front_job r).listed; ladders = ls; calls = (front_job r).calls } in
       let more =
-          ap₂ (λ k xs. map (ladder_of_place k) xs) rows added
-          ∙ map_push (ladder_of_place old.rows) old.places.items (record { count = count; rungs = gs })
-          ∙ ap₂ (λ n xs. ladders_of old ++ record { count = n; rungs = xs } ∷ []) versions here in
+      ap₂ (λ k xs. map (ladder_of_place k) xs) rows added
+      ∙ map_push (ladder_of_place old.rows) old.places.items (record { count = count; rungs = gs })
+      ∙ ap₂ (λ n xs. ladders_of old ++ record { count = n; rungs = xs } ∷ []) versions here in
       ap (λ ls. Ok (with_ladders ls)) more ∙ after_passed tests_of_body _ passed

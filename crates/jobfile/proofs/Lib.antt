@@ -10,9 +10,7 @@ pub mod Listings
 pub mod BodyReads
 pub mod VersionReads
 pub mod LadderReads
-pub mod RestReads
 pub mod FieldSteps
-pub mod Finishes
 pub mod FieldLoops
 pub mod WholeReads
 pub mod SameAnswers

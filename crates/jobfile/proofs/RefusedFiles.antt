@@ -10,7 +10,7 @@ use Rattle.rules.specs.Refusals.{fault_in}
 use Rattle.rules.proofs.Bools.{split}
 use Rattle.jobfile.specs.Bounds.{most_bytes}
 use Rattle.jobfile.specs.Writing.{Entry, field_bytes, bytes_of}
-use Rattle.jobfile.specs.Reading.{Reading, fresh, Announced, next, announced, field_length, decode, content_tests, after_tests, then, FieldRead, read_rest, read_announced, read_field, read_fields, early, finish, read}
+use Rattle.jobfile.specs.Reading.{Reading, fresh, Announced, next, announced, field_length, decode, content_tests, after_tests, and_then, FieldRead, read_rest, read_announced, read_field, read_fields, early, finish, read}
 use Rattle.jobfile.specs.Refusing.{FirstFailing, FieldFails, head_cut, tag_wrong, length_wrong, body_cut, contents_wrong, Refused, too_long, at_field, no_order, places_missing}
 use Rattle.jobfile.specs.Theorems.{RefusedLaw}
 use Rattle.jobfile.proofs.Codec.{Bytes}
@@ -83,7 +83,7 @@ fields_fail (suc most) s f bs front small l at here h =
     (λ z. absurd (refused_ok (sym (sym (cond-true (eqb (length bs) 0) (Ok s) _ z) ∙ h))))
     (λ z. by (λ t bs. fields_fail most t f bs) (read_field s bs at) refl (sym (cond-false (eqb (length bs) 0) (Ok s) _ z) ∙ h))
   where
-    by : ((t : Reading) (bs : List ℕ) → FrontOf t → Bytes bs → length bs ≤ most → (at : ℕ) → at ≡ length (bytes_of (fields_of t)) → read_fields most t bs at ≡ Err f → Refused (bytes_of (fields_of t) ++ bs) f) → (o : Result FieldRead Fault) → read_field s bs at ≡ o → then o (λ p. read_fields most p.reading (drop p.size bs) (at + p.size)) ≡ Err f → Refused (bytes_of (fields_of s) ++ bs) f
+    by : ((t : Reading) (bs : List ℕ) → FrontOf t → Bytes bs → length bs ≤ most → (at : ℕ) → at ≡ length (bytes_of (fields_of t)) → read_fields most t bs at ≡ Err f → Refused (bytes_of (fields_of t) ++ bs) f) → (o : Result FieldRead Fault) → read_field s bs at ≡ o → and_then o (λ p. read_fields most p.reading (drop p.size bs) (at + p.size)) ≡ Err f → Refused (bytes_of (fields_of s) ++ bs) f
     by later (Err g) e k =
         let same : g ≡ f = err_same k in
         at_field s.section s.job bs front (subst (λ n. FieldFails s.section s.job bs n f) here (field_fails at s f bs small (e ∙ ap Err same)))
@@ -119,7 +119,7 @@ refused_law bs small f h =
     (λ x. by (read_fields (length bs) fresh bs 0) refl (sym (cond-true (leb (length bs) most_bytes) _ _ x) ∙ h))
     (λ x. subst (Refused bs) (err_same (sym (cond-false (leb (length bs) most_bytes) _ _ x) ∙ h)) (too_long (leb-false _ _ x)))
   where
-    by : (o : Result Reading Fault) → read_fields (length bs) fresh bs 0 ≡ o → then o (λ s. finish s (length bs)) ≡ Err f → Refused bs f
+    by : (o : Result Reading Fault) → read_fields (length bs) fresh bs 0 ≡ o → and_then o (λ s. finish s (length bs)) ≡ Err f → Refused bs f
     by (Err g) e k = let same : g ≡ f = err_same k in fields_fail (length bs) fresh f bs tt small (omega arith) 0 refl (e ∙ ap Err same)
     by (Ok s) e k =
         let r = read_runs (length bs) 0 fresh s bs small (omega arith) e in

@@ -14,7 +14,7 @@ use Rattle.catalogue.specs.Listed.{amount_start, behind, listed_at}
 use Rattle.jobfile.specs.declared.job.Job.{Job}
 use Rattle.jobfile.specs.Stated.{RungStated}
 use Rattle.jobfile.specs.Opened.{ladder_of, no_ladder, stated_meaning}
-use Rattle.jobfile.specs.Reading.{held, ladder_amount, rung_amount}
+use Rattle.jobfile.specs.Reading.{held, rung_amount}
 use Rattle.jobfile.specs.InMemory.{amounts_at, ladder_of_place, ladders_of, rungs_of}
 use Rattle.jobfile.specs.Sound.{SameRows}
 use Rattle.jobfile.specs.Jobs.{job_meaning, stated_by}
@@ -121,9 +121,9 @@ module _ (file : List ℕ) (j : Job) (rows : SameRows j) (few : length j.listing
   amounts_same row q v in_row from to first last =
       let p = listed_at j.listing.places.items q in
       let g = place_at j.ladder.places.items (q - listed_count) in
-      by_place q (number_at file (amount_start j.listing.rows p row v)) (rung (rung_at j.ladder.places.items row (q - listed_count)).base (rung_at j.ladder.places.items row (q - listed_count)).step v) (get_or (get_or (held (stated_by file j) q) (v - 1) []) row (pos 0)) (ladder_amount (ladder_of (stated_by file j) q) v row)
+      by_place q (number_at file (amount_start j.listing.rows p row v)) (rung (rung_at j.ladder.places.items row (q - listed_count)).base (rung_at j.ladder.places.items row (q - listed_count)).step v) (get_or (get_or (held (stated_by file j) q) (v - 1) []) row (pos 0)) (rung_amount (ladder_of (stated_by file j) q).rungs v row)
       (λ near. amount_there_listed row q v (omega (arith, rows.listing)) from near first (omega (arith, last, versions_same q from to, cond-true (leb q listed_count) p.count g.count (le-leb q listed_count near))))
-      (λ past. rung_there g row v (omega (arith, rows.ladder)) ∙ sym (ap (λ l. ladder_amount l v row) (ladder_there q past to)))
+      (λ past. rung_there g row v (omega (arith, rows.ladder)) ∙ sym (ap (λ l. rung_amount l.rungs v row) (ladder_there q past to)))
 
   found : length (stated_by file j).listed + length (stated_by file j).ladders ≡ listed_count + ladder_count
   found = ap₂ (λ a b. a + b) listed (length_ladders j.ladder)

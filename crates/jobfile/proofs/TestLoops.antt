@@ -3,8 +3,8 @@ use Rattle.std.proofs.Common.{◌≡◌, ℕ, zero, suc, ◌+◌, ◌-◌, ◌<�
 use Rattle.std.proofs.lemmas.Bool.{cases_lt, le-leb, lt-leb}
 use Rattle.rules.specs.declared.refusals.Fault.{Fault}
 use Rattle.rules.specs.Bounds.{greatest_amount}
-use Rattle.rules.specs.Openings.{each_to, first_fault}
-use Rattle.jobfile.specs.Reading.{after_tests, amount_good, amount_test, row_amount_tests}
+use Rattle.rules.specs.Openings.{each_to, first_fault, test}
+use Rattle.jobfile.specs.Reading.{after_tests, amount_good, row_amount_tests}
 
 -- what tests come to, after tests that found nothing and before any others
 first_after : (xs ys : List (Option Fault)) → first_fault xs ≡ None → first_fault (xs ++ ys) ≡ first_fault ys
@@ -46,7 +46,7 @@ module _ (tests : ℕ → List (Option Fault)) where
 -- the amounts of the rows, tested one after the other from row 0 on
 module _ (amount : ℕ → ℤ) (bad : ℕ → Fault) where
   abbrev pub by_row : ℕ → List (Option Fault)
-  by_row k = amount_test (amount (k - 1)) (bad (k - 1))
+  by_row k = test (amount_good (amount (k - 1))) (bad (k - 1)) ∷ []
 
   at_row : (k : ℕ) (b : Bool) → amount_good (amount k) ≡ b → first_fault (by_row (k + 1)) ≡ cond b None (Some (bad k))
   at_row k true e = let back : k + 1 - 1 ≡ k = omega arith in simp (back, e)
