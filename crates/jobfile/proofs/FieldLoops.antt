@@ -5,7 +5,7 @@ use Rattle.std.proofs.lemmas.Bool.{cond-true, cond-false, eq-eqb, ne_eqb}
 use Rattle.rules.specs.declared.refusals.Fault.{Fault}
 use Rattle.jobfile.specs.declared.reader.Reader.{Reader}
 use Rattle.jobfile.specs.Reading.{Reading, read_field, read_fields, and_then}
-use Rattle.jobfile.specs.Readers.{AtEnd, MovedOn, field_between, front_of, told}
+use Rattle.jobfile.specs.Readers.{MovedOn, field_between, front_of, told}
 
 -- what is left of a file from where the reader is comes to a result
 pub record SoFar (file : List ℕ) (goal : Result Reading Fault) (r : Reader) : Type 0 where
@@ -44,7 +44,5 @@ nothing_left zero s bs at e = refl
 nothing_left (suc most) s bs at e = cond-true (eqb (length bs) 0) _ _ (eq-eqb _ _ e)
 
 -- at the end of the file
-pub fields_end : (file : List ℕ) (goal : Result Reading Fault) (r : Reader) → length file ≤ r.at → SoFar file goal r → (Ok (front_of r) ≡ goal) × AtEnd file r
-fields_end file goal r past s =
-    let none : length (drop r.at file) ≡ 0 = length-drop r.at file ∙ omega arith in
-    (sym (nothing_left s.most (front_of r) (drop r.at file) r.at none) ∙ s.leads, record { same = s.same; ends = omega (arith, r.within, ap length s.same, past) })
+pub fields_end : (file : List ℕ) (goal : Result Reading Fault) (r : Reader) → length file ≤ r.at → SoFar file goal r → Ok (front_of r) ≡ goal
+fields_end file goal r past s = sym (nothing_left s.most (front_of r) (drop r.at file) r.at (length-drop r.at file ∙ omega arith)) ∙ s.leads

@@ -1,13 +1,12 @@
 -- What a reader comes to with a version field. Assumes nothing.
-use Rattle.std.proofs.Common.{◌≡◌, ℕ, suc, ◌+◌, ◌-◌, ◌*◌, ◌<◌, ◌≤◌, List, [], ◌∷◌, ◌++◌, map, length, get_or, take, drop, set, ℤ, OnOk, Ok, Result, sym, refl, ap, ◌∙◌, subst, ap₂, add-mul, arith, length-append}
+use Rattle.std.proofs.Common.{◌≡◌, ℕ, suc, ◌+◌, ◌-◌, ◌*◌, ◌<◌, ◌≤◌, ltb, List, [], ◌∷◌, ◌++◌, map, length, get_or, take, drop, set, ℤ, Ok, sym, refl, ap, ◌∙◌, subst, ap₂, add-mul, arith, length-append}
 use Rattle.std.proofs.Math.Seq.{get_or-append_seam}
 use Rattle.std.proofs.lemmas.List.FromFn.{map-range_with_len_more}
 use Rattle.std.proofs.lemmas.List.{length-set, length-take-le, map_push, take-map, take_all, take_more_set}
-use Rattle.std.proofs.lemmas.Bool.{and_parts, leb-true, ltb-true}
-use Rattle.rules.specs.declared.refusals.Refusal.{Refusal}
+use Rattle.std.proofs.lemmas.Bool.{and_parts, cond-true, cond-false, leb-true, ltb-true, ltb-false}
 use Rattle.rules.specs.Bounds.{most_versions}
 use Rattle.rules.specs.Openings.{first_fault}
-use Rattle.rules.proofs.Bools.{clash}
+use Rattle.rules.proofs.Bools.{clash, split}
 use Rattle.rules.proofs.TestLists.{all_passed, test_passed}
 use Rattle.catalogue.specs.declared.listed.ListedPlace.{ListedPlace}
 use Rattle.catalogue.specs.declared.listed.Listing.{Listing}
@@ -18,7 +17,7 @@ use Rattle.jobfile.specs.declared.reader.Reader.{Reader}
 use Rattle.jobfile.specs.Stated.{PlaceStated, Stated}
 use Rattle.jobfile.specs.Sound.{HoldsIn, ListingEnds, Sound}
 use Rattle.jobfile.specs.Reading.{after_tests, amount_in, content_tests, decode, early, numbers_in, version_tests}
-use Rattle.jobfile.specs.InMemory.{amounts_at, versions_of, listed_of}
+use Rattle.jobfile.specs.InMemory.{amounts_at, versions_of, listed_of, with_version}
 use Rattle.jobfile.specs.Readers.{Due, front_job, with_body}
 use Rattle.jobfile.proofs.TestLoops.{passes}
 use Rattle.jobfile.proofs.BodyReads.{after_passed, front_with}
@@ -67,6 +66,7 @@ module _ (r : Reader) (body : List ℕ) (due : Due r field.Version body) where
 
   -- the listing has that version as well
   pub record Adds (new : Listing) (x : ListedPlace) : Type 0 where
+    pub end : new.end ≡ old.end
     pub rows : new.rows ≡ old.rows
     pub places : new.places.items ≡ take (q - 1) old.places.items ++ x ∷ []
     pub versions : versions_of file old.rows x ≡ get_or (listed_of file old) (q - 1) [] ++ amounts_at file old.rows r.at ∷ []
@@ -90,25 +90,26 @@ module _ (r : Reader) (body : List ℕ) (due : Due r field.Version body) where
       ∙ after_passed (first_fault (content_tests (front_job r) (decode (front_job r) field.Version body) r.at)) _ (subst (λ o. after_tests o (tt {0}) ≡ Ok (tt {0})) (version_tests_are r body) passed)
 
   -- the listing has as many places as the place's number, and the last one ends behind the field
-  pub length_more : (new : Listing) (x : ListedPlace) → Adds new x → 1 ≤ q → q ≤ suc (length old.places.items) → length new.places.items ≡ q
+  length_more : (new : Listing) (x : ListedPlace) → Adds new x → 1 ≤ q → q ≤ suc (length old.places.items) → length new.places.items ≡ q
   length_more new x a from next = ap length a.places ∙ omega (arith, length-append (take (q - 1) old.places.items) (x ∷ []), length-take-le (q - 1) old.places.items (omega arith))
 
-  pub last_ends : (new : Listing) (x : ListedPlace) → Adds new x → next_start new.rows (last_listed new.places.items) ≡ r.at + (3 + length body)
+  last_ends : (new : Listing) (x : ListedPlace) → Adds new x → next_start new.rows (last_listed new.places.items) ≡ r.at + (3 + length body)
   last_ends new x a = ap₂ (λ k xs. next_start k (last_listed xs)) a.rows a.places ∙ ap (next_start old.rows) (last_of (take (q - 1) old.places.items) x) ∙ a.ends
 
   -- the first version of the next place, and one version more of the last one
-  first_adds : (new : Listing) (start : ℕ) → q ≡ suc (length old.places.items) → start ≡ r.at → new.rows ≡ old.rows → new.places.items ≡ with_first_version old.places.items start → Adds new (record { count = 1; start = start })
-  first_adds new start turn here rows places =
+  first_adds : (new : Listing) (start : ℕ) → q ≡ suc (length old.places.items) → start ≡ r.at → new.end ≡ old.end → new.rows ≡ old.rows → new.places.items ≡ with_first_version old.places.items start → Adds new (record { count = 1; start = start })
+  first_adds new start turn here end rows places =
       let first : start + 0 * version_width old.rows ≡ r.at = omega arith in
       record {
+        end = end;
         rows = rows;
         places = places ∙ ap (λ xs. xs ++ record { count = 1; start = start } ∷ []) (sym (take_all (q - 1) old.places.items (omega arith)));
         versions = ap (λ k. amounts_at file old.rows k ∷ []) first ∙ ap (λ vs. vs ++ amounts_at file old.rows r.at ∷ []) (sym (held_past file old q (omega arith)));
         ends = omega (arith, here, due.fits, r.sound.same_rows.listing);
       }
 
-  next_adds : (new : Listing) → ListingEnds r.at r.job → q ≡ length old.places.items → 1 ≤ q → new.rows ≡ old.rows → new.places.items ≡ with_next_version old.places.items → Adds new (grown (last_listed old.places.items))
-  next_adds new ends turn from rows places =
+  next_adds : (new : Listing) → ListingEnds r.at r.job → q ≡ length old.places.items → 1 ≤ q → new.end ≡ old.end → new.rows ≡ old.rows → new.places.items ≡ with_next_version old.places.items → Adds new (grown (last_listed old.places.items))
+  next_adds new ends turn from end rows places =
       let items = old.places.items in
       let p = last_listed items in
       let field : ℕ → List ℤ = λ k. amounts_at file old.rows (behind old.rows p k) in
@@ -116,6 +117,7 @@ module _ (r : Reader) (body : List ℕ) (due : Due r field.Version body) where
       let changed : List ListedPlace = set items (length items - 1) (grown p) in
       let one : length items - 1 + 1 ≡ length items = omega arith in
       record {
+        end = end;
         rows = rows;
         places =
             places
@@ -128,48 +130,33 @@ module _ (r : Reader) (body : List ℕ) (due : Due r field.Version body) where
         ends = omega (arith, here, due.fits, r.sound.same_rows.listing, add-mul p.count 1 (version_width old.rows));
       }
 
-  -- a job has that version as well
-  pub record Has (j : Job) : Type 0 where
-    pub new : Listing
-    pub place : ListedPlace
-    pub is : j ≡ with_listing new
-    pub end : new.end ≡ old.end
-    pub adds : Adds new place
-
-  -- an answer that isn't a refusal says what was added
-  pub first_has : (j : Job) (new : Listing) (start : ℕ) (answer : Result (Unit {0}) Refusal) → q ≡ suc (length old.places.items) → start ≡ r.at → j ≡ with_listing new → new.end ≡ old.end → new.rows ≡ old.rows → answer ≡ Ok (tt {0}) → OnOk answer (new.places.items ≡ with_first_version old.places.items start) → Has j
-  first_has j new start answer turn here is end rows done added =
-      record {
-        new = new;
-        place = record { count = 1; start = start };
-        is = is;
-        end = end;
-        adds = first_adds new start turn here rows (subst (λ a. OnOk a (new.places.items ≡ with_first_version old.places.items start)) done added);
-      }
-
-  pub next_has : (j : Job) (new : Listing) (answer : Result (Unit {0}) Refusal) → q ≡ length old.places.items → 1 ≤ q → j ≡ with_listing new → new.end ≡ old.end → new.rows ≡ old.rows → answer ≡ Ok (tt {0}) → OnOk answer (new.places.items ≡ with_next_version old.places.items) → Has j
-  next_has j new answer turn from is end rows done added =
-      record {
-        new = new;
-        place = grown (last_listed old.places.items);
-        is = is;
-        end = end;
-        adds = next_adds new (r.holds.versions due.turn) turn from rows (subst (λ a. OnOk a (new.places.items ≡ with_next_version old.places.items)) done added);
-      }
-
-  pub job_read : PassedTests → (j : Job) → Has j → Ok (front_with r j) ≡ with_body (front_job r) field.Version body r.at
-  job_read passed j h = ap (λ j. Ok (front_with r j)) h.is ∙ version_read h.new h.place passed h.adds
-
-  pub turn : PassedTests → Turn r.job.sheet.places (length old.places.items) (versions_so_far old.places.items q) q
+  turn : PassedTests → Turn r.job.sheet.places (length old.places.items) (versions_so_far old.places.items q) q
   turn passed = turn_passed r.job.sheet.places r.job.sheet.last_row (length old.places.items) (versions_so_far old.places.items q) q (amount_in r.job.sheet.last_row body) r.at passed
 
-  pub still_sound : PassedTests → (j : Job) → Has j → Sound file r.rows j
-  still_sound passed j h =
+  pub record Has (new : Listing) : Type 0 where
+    pub place : ListedPlace
+    pub adds : Adds new place
+
+  pub has_version : PassedTests → (new : Listing) (start : ℕ) → start ≡ r.at → new.end ≡ old.end → new.rows ≡ old.rows → new.places.items ≡ with_version old.places.items q start → Has new
+  has_version passed new start here end rows added =
+      let t = turn passed in
+      split (ltb (length old.places.items) q)
+      (λ next.
+      let past : length old.places.items < q = ltb-true _ _ next in
+      record { place = record { count = 1; start = start }; adds = first_adds new start (omega (arith, t.next)) here end rows (added ∙ cond-true _ _ _ next) })
+      (λ last.
+      let to : q ≤ length old.places.items = ltb-false _ _ last in
+      record { place = grown (last_listed old.places.items); adds = next_adds new (r.holds.versions due.turn) (omega (arith, t.after)) t.from end rows (added ∙ cond-false _ _ _ last) })
+
+  pub job_read : PassedTests → (new : Listing) → Has new → Ok (front_with r (with_listing new)) ≡ with_body (front_job r) field.Version body r.at
+  job_read passed new h = version_read new h.place passed h.adds
+
+  pub still_sound : PassedTests → (new : Listing) → Has new → Sound file r.rows (with_listing new)
+  still_sound passed new h =
       let s = r.sound in
       let t = turn passed in
-      let count = length_more h.new h.place h.adds t.from t.next in
+      let count = length_more new h.place h.adds t.from t.next in
       let ends = r.holds.versions due.turn in
-      subst (Sound file r.rows) (sym h.is) (
       record {
         short = s.short;
         few_places = s.few_places;
@@ -178,16 +165,15 @@ module _ (r : Reader) (body : List ℕ) (due : Due r field.Version body) where
         order_table = s.order_table;
         rows_read = s.rows_read;
         same_rows = record { listing = h.adds.rows ∙ s.same_rows.listing; ladder = s.same_rows.ladder };
-        end = h.end ∙ s.end;
+        end = h.adds.end ∙ s.end;
         placed = omega (arith, count, t.to, ap length ends.no_ladder);
-      })
+      }
 
-  pub still_holds : (j : Job) → Has j → HoldsIn r.section (r.at + (3 + length body)) r.rows j
-  still_holds j h =
+  pub still_holds : (new : Listing) → Has new → HoldsIn r.section (r.at + (3 + length body)) r.rows (with_listing new)
+  still_holds new h =
       let ends = r.holds.versions due.turn in
-      subst (HoldsIn r.section (r.at + (3 + length body)) r.rows) (sym h.is) (
       record {
         nothing_after = λ e. clash (ap early (sym due.turn) ∙ e) refl;
         all_rows = r.holds.all_rows;
-        versions = λ e. record { no_ladder = ends.no_ladder; last = λ some. last_ends h.new h.place h.adds };
-      })
+        versions = λ e. record { no_ladder = ends.no_ladder; last = λ some. last_ends new h.place h.adds };
+      }

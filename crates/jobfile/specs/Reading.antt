@@ -203,11 +203,8 @@ pub record FieldRead : Type 0 where
 abbrev pub read_rest : Stated → Announced → ℕ → List ℕ → ℕ → Result FieldRead Fault
 read_rest j p len tail at =
     let e = decode j p.field (take len tail) in
-    if len == field_length j p.field
-    then (if nat_le len (length tail)
-    then after_tests (first_fault (content_tests j e at)) (record { size = 3 + len; reading = record { section = p.section; job = with_entry j e } })
-    else refuse FieldCut at)
-    else refuse WrongLength at
+    let said = after_tests (first_fault (content_tests j e at)) (record { size = 3 + len; reading = record { section = p.section; job = with_entry j e } }) in
+    if len == field_length j p.field then (if nat_le len (length tail) then said else refuse FieldCut at) else refuse WrongLength at
 
 -- A tag that isn't allowed, or the rest of its field.
 abbrev pub read_announced : Stated → Option Announced → ℕ → List ℕ → ℕ → Result FieldRead Fault

@@ -1,11 +1,27 @@
 // The bodies of version and ladder fields.
+ghost use Rattle.std.specs.Prelude.{◌≡◌, OnOk};
+ghost use Rattle.jobfile.specs.InMemory.{version_added, with_version};
 ghost use Rattle.jobfile.specs.declared.fields.Field.TheVariants as field;
 
 use crate::bodies::LadderBody;
 use crate::checks::check_version;
 use crate::reader::Reader;
-use catalogue::Catalogue;
-use rules::Fault;
+use catalogue::{Catalogue, Listing};
+use rules::{Fault, Refusal};
+
+// One version more of a place: of the next one, whose field begins at a byte, or of the last one.
+fn add_version(listing: &mut Listing, place: u8, start: usize) -> Result<(), Refusal>
+    ensures told { result ≡ version_added listing.old.end listing.old.rows listing.old.places.items place start }
+    ensures end { listing.new.end ≡ listing.old.end }
+    ensures rows { listing.new.rows ≡ listing.old.rows }
+    ensures added { OnOk result (listing.new.places.items ≡ with_version listing.old.places.items place start) }
+{
+    if place > listing.places() {
+        listing.add_place(start)
+    } else {
+        listing.add_version()
+    }
+}
 
 impl Reader<'_> {
     ghost use Rattle.jobfile.specs.Readers.{Due, BodyRead};
@@ -19,12 +35,9 @@ impl Reader<'_> {
         let listed = self.job.listing.places();
         let has = self.job.listing.versions(place);
         check_version(&self.job.sheet, listed, has, body, self.at)?;
-        let added = if place > listed {
-            self.job.listing.add_place(usize::from(self.at))
-        } else {
-            self.job.listing.add_version()
+        let Ok(()) = add_version(&mut self.job.listing, place, usize::from(self.at)) else {
+            unreachable()
         };
-        let Ok(()) = added else { unreachable() };
         self.at += 3 + body.len() as u16;
         Ok(())
     }

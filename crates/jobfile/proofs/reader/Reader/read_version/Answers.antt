@@ -4,9 +4,8 @@ use Rattle.jobfile.specs.declared.fields.Field.TheVariants as field
 use Rattle.jobfile.specs.Reading.{after_tests}
 use Rattle.jobfile.proofs.BodyReads.{body_failed}
 use Rattle.jobfile.proofs.Listings.{found_in_version, version_tests_are}
-use Rattle.jobfile.proofs.VersionReads.{Has, PassedTests, first_has, job_read, next_has, still_holds, still_sound, turn}
+use Rattle.jobfile.proofs.VersionReads.{PassedTests, has_version, job_read, still_holds, still_sound}
 use Rattle.jobfile.proofs.reader.Reader.read_version.Goals as goal
-use Rattle.jobfile.proofs.reader.Reader.read_version.Goals.{then-place-listed, else-place-listed}
 
 pub returns-in_err-check_version : goal.returns-in_err-check_version
 returns-in_err-check_version c =
@@ -22,18 +21,9 @@ invariant_of-self-2 c =
     let bs = c.args.body.now in
     let by-listing = ap₂ (λ listed has. after_tests (found_in_version r bs (get_or bs 0 0) listed has) (tt {0})) c.places-listed.ensures c.versions-has.ensures in
     let passed : PassedTests r bs c.requires = sym by-listing ∙ sym c.check_version.ensures ∙ c.in_ok-check_version.was in
-    let t = turn r bs c.requires passed in
-    let j = c.if-place-listed.self.1.1.1.1.1.0 in
-    let has : Has r bs c.requires j =
-    elim c.if-place-listed.branch [
-      | then-place-listed w ↦
-          let did = w.add_place-added.ensures in
-          first_has r bs c.requires j w.add_place-added.new.self w.from.result w.add_place-added.result (omega (arith, t.next)) w.from.ensures (ap (λ s. s.1.1.1.1.1.0) w.self-is) did.end did.rows (sym w.added-is ∙ c.in-Ok.is) did.added
-      | else-place-listed w ↦
-          let did = w.add_version-added.ensures in
-          next_has r bs c.requires j w.add_version-added.new.self w.add_version-added.result (omega (arith, t.after)) t.from (ap (λ s. s.1.1.1.1.1.0) w.self-is) did.end did.rows (sym w.added-is ∙ c.in-Ok.is) did.added
-    ] in
-    record { within = omega (arith, c.requires.there); sound = still_sound r bs c.requires passed j has; holds = still_holds r bs c.requires j has }
+    let did = c.in-Ok.ensures in
+    let has = has_version r bs c.requires passed c.add_version.new.listing c.from.result c.from.ensures did.end did.rows did.added in
+    record { within = omega (arith, c.requires.there); sound = still_sound r bs c.requires passed _ has; holds = still_holds r bs c.requires _ has }
 
 pub returns : goal.returns
 returns c =
@@ -41,15 +31,6 @@ returns c =
     let bs = c.args.body.now in
     let by-listing = ap₂ (λ listed has. after_tests (found_in_version r bs (get_or bs 0 0) listed has) (tt {0})) c.places-listed.ensures c.versions-has.ensures in
     let passed : PassedTests r bs c.requires = sym by-listing ∙ sym c.check_version.ensures ∙ c.in_ok-check_version.was in
-    let t = turn r bs c.requires passed in
-    let j = c.if-place-listed.self.1.1.1.1.1.0 in
-    let has : Has r bs c.requires j =
-    elim c.if-place-listed.branch [
-      | then-place-listed w ↦
-          let did = w.add_place-added.ensures in
-          first_has r bs c.requires j w.add_place-added.new.self w.from.result w.add_place-added.result (omega (arith, t.next)) w.from.ensures (ap (λ s. s.1.1.1.1.1.0) w.self-is) did.end did.rows (sym w.added-is ∙ c.in-Ok.is) did.added
-      | else-place-listed w ↦
-          let did = w.add_version-added.ensures in
-          next_has r bs c.requires j w.add_version-added.new.self w.add_version-added.result (omega (arith, t.after)) t.from (ap (λ s. s.1.1.1.1.1.0) w.self-is) did.end did.rows (sym w.added-is ∙ c.in-Ok.is) did.added
-    ] in
-    record { job = job_read r bs c.requires passed j has; file = refl; section = refl; at = refl }
+    let did = c.in-Ok.ensures in
+    let has = has_version r bs c.requires passed c.add_version.new.listing c.from.result c.from.ensures did.end did.rows did.added in
+    record { job = job_read r bs c.requires passed _ has; file = refl; section = refl; at = refl }
