@@ -11,15 +11,15 @@ use Rattle.jobfile.specs.InMemory.{ladders_of, listed_of}
 use Rattle.jobfile.specs.Reading.{after_tests, content_tests, decode, early}
 use Rattle.jobfile.specs.declared.reader.Reader.{Reader}
 use Rattle.jobfile.specs.Readers.{BodyRead, front_job, told}
-use Rattle.jobfile.proofs.TestLoops.{fails, passes}
+use Rattle.jobfile.proofs.TestLoops.{failed_tests, passed_tests}
 
 -- where the tests found nothing, what comes after them comes
 pub after_passed : {X : Type 0} (o : Option Fault) (x : X) → after_tests o (tt {0}) ≡ Ok (tt {0}) → Ok x ≡ after_tests o x
-after_passed o x h = sym (ap (λ p. after_tests p x) (passes o h))
+after_passed o x h = sym (ap (λ p. after_tests p x) (passed_tests o _ _ h).0)
 
 -- where they found a fault, it comes
 after_failed : {X : Type 0} (o : Option Fault) (x : X) (f : Fault) → after_tests o (tt {0}) ≡ Err f → Err f ≡ after_tests o x
-after_failed o x f h = sym (ap (λ p. after_tests p x) (fails o f h))
+after_failed o x f h = sym (ap (λ p. after_tests p x) (failed_tests o _ f h))
 
 -- the front of a job, by what a reader has of it
 abbrev pub front_with : Reader → Job → Stated

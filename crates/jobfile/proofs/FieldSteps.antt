@@ -1,5 +1,5 @@
 -- A field, by its head and what its rest comes to. Assumes nothing.
-use Rattle.std.proofs.Common.{◌≡◌, ℕ, ◌+◌, ◌-◌, ◌*◌, ◌≤◌, ◌⊎◌, Bool, true, false, cond, ◌&&◌, eqb, ltb, leb, List, [], length, get_or, take, drop, Some, None, Option, Result, sym, refl, ap, ◌∙◌, ap₂, subst, inl, inr, arith}
+use Rattle.std.proofs.Common.{◌≡◌, ℕ, ◌+◌, ◌-◌, ◌*◌, ◌≤◌, Bool, cond, leb, List, [], length, get_or, take, drop, Some, Result, sym, refl, ap, ◌∙◌, ap₂, inl, inr, arith}
 use Rattle.std.proofs.lemmas.List.{length-take-le, take_rest}
 use Rattle.std.proofs.lemmas.Bool.{cond-true, le-leb}
 use Rattle.rules.specs.declared.refusals.Fault.{Fault}
@@ -7,45 +7,18 @@ use Rattle.rules.specs.Sheets.{last_row, order_of}
 use Rattle.jobfile.specs.declared.fields.Field.{Field}
 use Rattle.jobfile.specs.declared.fields.Field.TheVariants as field
 use Rattle.jobfile.specs.declared.fields.Section.{Section}
-use Rattle.jobfile.specs.declared.fields.Section.TheVariants as section
 use Rattle.jobfile.specs.declared.reader.Reader.{Reader}
 use Rattle.jobfile.specs.declared.job.Job.{Job}
 use Rattle.jobfile.specs.CallTables.{calls_of}
 use Rattle.jobfile.specs.InMemory.{ladders_of, listed_of}
 use Rattle.jobfile.specs.Stated.{Stated}
-use Rattle.jobfile.specs.Reading.{Announced, FieldRead, announced_with, early, next, read_announced, read_field, read_rest}
+use Rattle.jobfile.specs.Reading.{Announced, FieldRead, announced_with, early, read_announced, read_field, read_rest}
+use Rattle.jobfile.proofs.Announcing.{announced_as}
 use Rattle.jobfile.specs.Readers.{SameButSection, field_between, front_job, front_of, told}
 
 -- what is left of a file from a byte on
 pub from_byte : (file : List ℕ) (n at : ℕ) → n ≡ at → take (length file - n) (drop n file) ≡ drop at file
 from_byte file n at same = take_rest file n ∙ ap (λ k. drop k file) same
-
--- no field but the order's alters whether the order has come
-abbrev Keeps : Section → Announced → Type 0
-Keeps c p = (p.field ≡ field.Order) ⊎ (early p.section ≡ early c)
-
-kept_or : (b : Bool) (c : Section) (f : Field) (d : Section) (o : Option Announced) (p : Announced) → Keeps c (record { field = f; section = d }) → (o ≡ Some p → Keeps c p) → cond b (next f d) o ≡ Some p → Keeps c p
-kept_or true c f d o p k g e = let same : record { field = f; section = d } ≡ p = cc in subst (Keeps c) same k
-kept_or false c f d o p k g e = g e
-
-none_kept : (c : Section) (p : Announced) → None ≡ Some p → Keeps c p
-none_kept c p e = let z : ◌≡◌ {A = ℕ} 0 1 = cc in absurd (omega arith)
-
-order_kept : (rows m tag : ℕ) (c : Section) (p : Announced) → announced_with rows m c tag ≡ Some p → Keeps c p
-order_kept rows m tag section.Start p = kept_or (eqb tag 1) section.Start field.Sheet section.Rows None p (inr refl) (none_kept section.Start p)
-order_kept rows m tag section.Rows p =
-    let orders = cond (eqb tag 3 && eqb rows m) (next field.Order section.Versions) None in
-    kept_or (eqb tag 2 && ltb rows m) section.Rows field.Row section.Rows orders p (inr refl)
-    (kept_or (eqb tag 3 && eqb rows m) section.Rows field.Order section.Versions None p (inl refl) (none_kept section.Rows p))
-order_kept rows m tag section.Versions p =
-    let calls = cond (eqb tag 6) (next field.Call section.Calls) None in
-    let ladders = cond (eqb tag 5) (next field.Ladder section.Ladders) calls in
-    kept_or (eqb tag 4) section.Versions field.Version section.Versions ladders p (inr refl)
-    (kept_or (eqb tag 5) section.Versions field.Ladder section.Ladders calls p (inr refl) (kept_or (eqb tag 6) section.Versions field.Call section.Calls None p (inr refl) (none_kept section.Versions p)))
-order_kept rows m tag section.Ladders p =
-    let calls = cond (eqb tag 6) (next field.Call section.Calls) None in
-    kept_or (eqb tag 5) section.Ladders field.Ladder section.Ladders calls p (inr refl) (kept_or (eqb tag 6) section.Ladders field.Call section.Calls None p (inr refl) (none_kept section.Ladders p))
-order_kept rows m tag section.Calls p = kept_or (eqb tag 6) section.Calls field.Call section.Calls None p (inr refl) (none_kept section.Calls p)
 
 -- the front of a job, by what a reader has of it and the order
 abbrev front : List ℕ → ℕ → Job → List ℕ → Stated
@@ -67,11 +40,11 @@ with_order j order = record { places = j.places; last_row = j.last_row; cap = j.
 
 any_order : (j : Stated) (xs ys : List ℕ) (f : Field) (c : Section) (size : ℕ) (tail : List ℕ) (at : ℕ) → f ≡ field.Order → read_rest (with_order j xs) (record { field = f; section = c }) size tail at ≡ read_rest (with_order j ys) (record { field = f; section = c }) size tail at
 any_order j xs ys field.Order c size tail at e = refl
-any_order j xs ys field.Sheet c size tail at e = let z : ◌≡◌ {A = ℕ} 0 1 = cc in absurd (omega arith)
-any_order j xs ys field.Row c size tail at e = let z : ◌≡◌ {A = ℕ} 0 1 = cc in absurd (omega arith)
-any_order j xs ys field.Version c size tail at e = let z : ◌≡◌ {A = ℕ} 0 1 = cc in absurd (omega arith)
-any_order j xs ys field.Ladder c size tail at e = let z : ◌≡◌ {A = ℕ} 0 1 = cc in absurd (omega arith)
-any_order j xs ys field.Call c size tail at e = let z : ◌≡◌ {A = ℕ} 0 1 = cc in absurd (omega arith)
+any_order j xs ys field.Sheet c size tail at e = absurd (cc)
+any_order j xs ys field.Row c size tail at e = absurd (cc)
+any_order j xs ys field.Version c size tail at e = absurd (cc)
+any_order j xs ys field.Ladder c size tail at e = absurd (cc)
+any_order j xs ys field.Call c size tail at e = absurd (cc)
 
 -- a field by its head, where the reader r has entered the section after it and is s then
 module _ (r s : Reader) (f : Field) (size : ℕ) (tail : List ℕ) (same : SameButSection r s) where
@@ -86,7 +59,7 @@ module _ (r s : Reader) (f : Field) (size : ℕ) (tail : List ℕ) (same : SameB
       ap (λ b. rest b.now s.at s.rows s.job (early s.section)) same.file
       ∙ ap₂ (λ at rows. rest r.file.now at rows s.job (early s.section)) same.at same.rows
       ∙ ap (λ j. rest r.file.now r.at r.rows j (early s.section)) same.job in
-      first ∙ elim (order_kept r.rows (last_row r.job.sheet) tag r.section p said) [
+      first ∙ elim ((announced_as r.rows (last_row r.job.sheet) tag r.section p said).1) [
         | inl e ↦ any_order (front_job r) (order (early s.section) r.job) (order (early r.section) r.job) f s.section size tail r.at e
         | inr e ↦ ap (λ b. rest r.file.now r.at r.rows r.job b) e
       ]

@@ -15,7 +15,7 @@ use Rattle.jobfile.specs.Stated.{RungStated, LadderStated, Stated}
 use Rattle.jobfile.specs.Reading.{after_tests, content_tests, decode, ladder_tests, numbers_in, rung_amount, rungs_in}
 use Rattle.jobfile.specs.InMemory.{ladder_of_place, ladders_of, rungs_of}
 use Rattle.jobfile.specs.Readers.{front_job, with_body}
-use Rattle.jobfile.proofs.TestLoops.{passes}
+use Rattle.jobfile.proofs.TestLoops.{passed_tests}
 use Rattle.jobfile.proofs.BodyReads.{after_passed, front_with}
 use Rattle.jobfile.proofs.Listings.{length_listed}
 
@@ -30,7 +30,7 @@ found_in_ladder r q count found gs = first_fault (ladder_tests r.job.sheet.place
 -- the place's turn, among what the tests say that passed
 pub turn_passed : (r : Reader) (q count found : ℕ) (gs : List RungStated) → after_tests (found_in_ladder r q count found gs) (tt {0}) ≡ Ok (tt {0}) → (q ≡ suc found) × (q ≤ r.job.sheet.places)
 turn_passed r q count found gs h =
-    let all = all_passed (ladder_tests r.job.sheet.places r.job.sheet.last_row found q count (rung_amount gs) r.at) (passes _ h) in
+    let all = all_passed (ladder_tests r.job.sheet.places r.job.sheet.last_row found q count (rung_amount gs) r.at) (passed_tests _ _ _ h).0 in
     let turn = and_parts _ _ (test_passed _ _ all.0) in
     (eqb-true q (suc found) turn.0, leb-true q r.job.sheet.places turn.1)
 

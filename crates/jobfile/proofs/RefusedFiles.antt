@@ -13,6 +13,7 @@ use Rattle.jobfile.specs.Writing.{Entry, field_bytes, bytes_of}
 use Rattle.jobfile.specs.Reading.{Reading, fresh, Announced, next, announced, field_length, decode, content_tests, after_tests, and_then, FieldRead, read_rest, read_announced, read_field, read_fields, early, finish, read}
 use Rattle.jobfile.specs.Refusing.{FirstFailing, FieldFails, head_cut, tag_wrong, length_wrong, body_cut, contents_wrong, Refused, too_long, at_field, no_order, places_missing}
 use Rattle.jobfile.specs.Theorems.{RefusedLaw}
+use Rattle.jobfile.proofs.TestLoops.{failed_tests}
 use Rattle.jobfile.proofs.Codec.{Bytes}
 use Rattle.jobfile.proofs.FieldReads.{refused_ok, says, field_reads}
 use Rattle.jobfile.proofs.FileRuns.{read_runs}
@@ -23,18 +24,14 @@ err_same : {X : Type 0} {f g : Fault} → ◌≡◌ {A = Result X Fault} (Err f)
 err_same e = cc
 
 first_failing : (ts : List (Option Fault)) (f : Fault) → first_fault ts ≡ Some f → FirstFailing ts f
-first_failing [] f e = let z : ◌≡◌ {A = ℕ} 0 1 = cc in absurd (omega arith)
+first_failing [] f e = absurd (cc)
 first_failing (Some g ∷ ts) f e = let same : g ≡ f = cc in record { before = []; after = ts; are = ap (λ x. Some x ∷ ts) same; passed = tt }
 first_failing (None ∷ ts) f e =
     let r = first_failing ts f e in
     record { before = None ∷ r.before; after = r.after; are = ap (λ x. None ∷ x) r.are; passed = (refl, r.passed) }
 
 tests_refuse : {X : Type 0} (ts : List (Option Fault)) (x : X) (f : Fault) → after_tests (first_fault ts) x ≡ Err f → FirstFailing ts f
-tests_refuse {X} ts x f h = by (first_fault ts) refl h
-  where
-    by : (o : Option Fault) → first_fault ts ≡ o → after_tests o x ≡ Err f → FirstFailing ts f
-    by None e h = absurd (refused_ok (sym h))
-    by (Some g) e h = let same : g ≡ f = err_same h in first_failing ts f (e ∙ ap Some same)
+tests_refuse ts x f h = first_failing ts f (failed_tests (first_fault ts) x f h)
 
 module _ (at : ℕ) (s : Reading) (f : Fault) (a b c : ℕ) (tail : List ℕ) (small : Bytes (a ∷ (b ∷ (c ∷ tail)))) where
   abbrev bs : List ℕ

@@ -10,21 +10,21 @@ use Rattle.jobfile.specs.Reading.{after_tests, amount_good, row_amount_tests}
 first_after : (xs ys : List (Option Fault)) → first_fault xs ≡ None → first_fault (xs ++ ys) ≡ first_fault ys
 first_after [] ys h = refl
 first_after (None ∷ xs) ys h = first_after xs ys h
-first_after (Some f ∷ xs) ys h = let z : ◌≡◌ {A = ℕ} 0 1 = cc in absurd (omega arith)
+first_after (Some f ∷ xs) ys h = absurd (cc)
 
 first_before : (xs ys : List (Option Fault)) (f : Fault) → first_fault xs ≡ Some f → first_fault (xs ++ ys) ≡ Some f
-first_before [] ys f h = let z : ◌≡◌ {A = ℕ} 0 1 = cc in absurd (omega arith)
+first_before [] ys f h = absurd (cc)
 first_before (None ∷ xs) ys f h = first_before xs ys f h
 first_before (Some g ∷ xs) ys f h = h
 
 -- an answer tells what the tests found
-pub passes : (o : Option Fault) → after_tests o (tt {0}) ≡ Ok (tt {0}) → o ≡ None
-passes None h = refl
-passes (Some f) h = let z : ◌≡◌ {A = ℕ} 0 1 = cc in absurd (omega arith)
+pub passed_tests : {X : Type 0} (o : Option Fault) (x y : X) → after_tests o x ≡ Ok y → (o ≡ None) × (x ≡ y)
+passed_tests None x y e = let same : x ≡ y = cc in (refl, same)
+passed_tests (Some f) x y e = absurd (cc)
 
-pub fails : (o : Option Fault) (f : Fault) → after_tests o (tt {0}) ≡ Err f → o ≡ Some f
-fails None f h = let z : ◌≡◌ {A = ℕ} 0 1 = cc in absurd (omega arith)
-fails (Some g) f h = cc
+pub failed_tests : {X : Type 0} (o : Option Fault) (x : X) (f : Fault) → after_tests o x ≡ Err f → o ≡ Some f
+failed_tests None x f e = absurd (cc)
+failed_tests (Some g) x f e = let same : g ≡ f = cc in ap Some same
 
 -- the tests of each number from 1 on, where those up to j passed and k comes next
 module _ (tests : ℕ → List (Option Fault)) where

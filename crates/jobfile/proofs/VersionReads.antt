@@ -19,7 +19,7 @@ use Rattle.jobfile.specs.Sound.{HoldsIn, ListingEnds, Sound}
 use Rattle.jobfile.specs.Reading.{after_tests, amount_in, content_tests, decode, early, numbers_in, version_tests}
 use Rattle.jobfile.specs.InMemory.{amounts_at, versions_of, listed_of, with_version}
 use Rattle.jobfile.specs.Readers.{Due, front_job, with_body}
-use Rattle.jobfile.proofs.TestLoops.{passes}
+use Rattle.jobfile.proofs.TestLoops.{passed_tests}
 use Rattle.jobfile.proofs.BodyReads.{after_passed, front_with}
 use Rattle.jobfile.proofs.Listings.{amounts_are, found_by_listing, held_at, held_past, version_tests_are}
 
@@ -33,7 +33,7 @@ pub record Turn (n listed has q : ℕ) : Type 0 where
 
 turn_passed : (n m listed has q : ℕ) (a : ℕ → ℤ) (at : ℕ) → after_tests (first_fault (version_tests n m listed has q a at)) (tt {0}) ≡ Ok (tt {0}) → Turn n listed has q
 turn_passed n m listed has q a at h =
-    let all = all_passed (version_tests n m listed has q a at) (passes _ h) in
+    let all = all_passed (version_tests n m listed has q a at) (passed_tests _ _ _ h).0 in
     let turn = and_parts _ _ (test_passed _ _ all.0) in
     let turn₁ = and_parts _ _ turn.1 in
     let turn₂ = and_parts _ _ turn₁.1 in
