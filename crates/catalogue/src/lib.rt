@@ -7,12 +7,14 @@ ghost use Rattle.rules.specs.Catalogues.{Meaning, SoundMeaning, versions_told, a
 mod beside;
 mod ladder;
 mod listed;
+mod numbers;
 mod places;
 mod rung;
 
 pub use beside::Beside;
 pub use ladder::Ladder;
 pub use listed::{Listed, Listing};
+pub use numbers::number_at;
 pub use rung::Rung;
 
 // A question alters nothing, and its answer is always the meaning's.

@@ -1,18 +1,17 @@
 // The catalogue whose amounts are read from the bytes of version fields.
-ghost use Rattle.std.specs.Prelude.{◌≡◌, ◌+◌, ◌^◌, ◌<◌, ◌≤◌, [], length, slice_index, All, IfOk, OnOk, OnErr, is_ok};
+ghost use Rattle.std.specs.Prelude.{◌≡◌, ◌+◌, ◌^◌, ◌<◌, ◌≤◌, [], length, All, IfOk, OnOk, OnErr, is_ok};
 ghost use Rattle.std.specs.Result.{IsOkUnless};
 ghost use Rattle.arrayvec.specs.ArrayVec.{array_vec_len};
 ghost use Rattle.rules.specs.declared.refusals.Refusal.TheVariants.{CountOutside};
-ghost use Rattle.rules.specs.Numbers.{number_at};
 ghost use Rattle.catalogue.specs.Places.{allowed_rows, Counted, Versions};
 ghost use Rattle.catalogue.specs.Listed.{amount_start, behind, Bytes, field_fits, listed_meaning, next_start, place_told, version_told, version_width, versions_so_far, with_first_version, with_next_version};
 ghost use Rattle.catalogue.specs.Sounds.{listed_sound};
 
 use crate::Catalogue;
+use crate::numbers::number_at;
 use crate::places::{check_rows, numbered};
 use arrayvec::ArrayVec;
 use rules::{MOST_PLACES, MOST_VERSIONS, Refusal};
-use std::array;
 
 // The bytes at the front of a version field, before its amounts.
 const FRONT: usize = 4;
@@ -60,8 +59,7 @@ impl ListedPlace {
     // The byte where the amount of a row in a version begins.
     fn amount_start(self, rows: u8, row: u8, version: u8) -> usize
         requires { amount_start rows self row version + 4 ≤ 2 ^ 64 }
-        ensures is { result ≡ amount_start rows self row version }
-        ensures near { result + 4 ≤ 2 ^ 64 }
+        ensures { result ≡ amount_start rows self row version }
     {
         self.behind(rows, version.saturating_sub(1)) + FRONT + WIDTH * usize::from(row)
     }
@@ -157,21 +155,6 @@ pub struct Listed<'a> {
     ghost small: { Bytes bytes.now },
 }
 
-// The byte at an index, and 0 if there is no such byte.
-fn byte(bytes: &[u8], at: usize) -> u8
-    ensures { result ≡ slice_index bytes.now at }
-{
-    bytes.get(at).copied().unwrap_or(0)
-}
-
-// The signed number in the four bytes from an index on.
-fn number(bytes: &[u8], at: usize) -> i32
-    requires { at + 4 ≤ 2 ^ 64 }
-    ensures { result ≡ number_at bytes.now at }
-{
-    i32::from_be_bytes(array::from_fn(|i| byte(bytes, at + i)))
-}
-
 impl<'a> Listed<'a> {
     // The catalogue of a listing whose fields lie in these bytes.
     pub fn new(bytes: &'a [u8], listing: Listing) -> Listed<'a>
@@ -208,6 +191,6 @@ impl<'a> Catalogue for Listed<'a> {
             return None;
         }
         let at = chosen.amount_start(listing.rows, row, version);
-        Some(i64::from(number(self.bytes, at)))
+        Some(i64::from(number_at(self.bytes, at)))
     }
 }

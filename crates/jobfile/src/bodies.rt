@@ -1,30 +1,14 @@
 // What the bodies of fields say.
-ghost use Rattle.std.specs.Prelude.{◌≡◌, ℕ, suc, ◌+◌, ◌*◌, ◌^◌, ◌≤◌, length, drop, slice_index};
+ghost use Rattle.std.specs.Prelude.{◌≡◌, ℕ, suc, ◌*◌, ◌≤◌, length, drop, slice_index};
 ghost use Rattle.rules.specs.Bounds.{greatest_row, most_rows};
 ghost use Rattle.rules.specs.Openings.{each_to, first_fault};
-ghost use Rattle.rules.specs.Numbers.{number_at as number_in};
 ghost use Rattle.jobfile.specs.InMemory.{rungs_of};
 ghost use Rattle.jobfile.specs.Reading.{after_tests, amount_fault, ladder_tests, numbers_in, row_amount_tests, rung_amount, rungs_in};
 
 use crate::checks::{Spot, check_amounts, fault_at};
-use catalogue::Rung;
+use catalogue::{Rung, number_at};
 use rules::{Fault, MOST_ROWS, MOST_VERSIONS, Refusal, Sheet};
 use std::array;
-
-// The byte at an index; one that there is not counts as 0.
-fn byte_at(bytes: &[u8], at: usize) -> u8
-    ensures { result ≡ slice_index bytes.now at }
-{
-    bytes.get(at).copied().unwrap_or(0)
-}
-
-// The signed number in the four bytes from an index on.
-pub(crate) fn number_at(bytes: &[u8], at: usize) -> i32
-    requires { at + 4 ≤ 2 ^ 64 }
-    ensures { result ≡ number_in bytes.now at }
-{
-    i32::from_be_bytes(array::from_fn(|i| byte_at(bytes, at + i)))
-}
 
 // The rungs in the body of a ladder field, a row each.
 fn rungs_in(body: &[u8]) -> [Rung; MOST_ROWS]

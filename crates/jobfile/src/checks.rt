@@ -7,8 +7,8 @@ ghost use Rattle.rules.specs.Records.{asked};
 ghost use Rattle.jobfile.specs.Reading.{after_tests, amount_fault, amount_in, row_amount_tests, sheet_tests, row_tests, order_tests, version_tests, call_tests};
 ghost use Rattle.jobfile.specs.Amounts.{Gives};
 
-use crate::bodies::number_at;
 use crate::bounds::MOST_CALLS;
+use catalogue::number_at;
 use rules::{
     Fault, GREATEST_AMOUNT, GREATEST_LIMIT, GREATEST_ROW, Kind, MOST_PLACES, MOST_VERSIONS,
     Refusal, Request, Row, Sheet,

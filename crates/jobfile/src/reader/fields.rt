@@ -1,10 +1,10 @@
 // The bodies of fields, one kind after the other.
 ghost use Rattle.jobfile.specs.declared.fields.Field.TheVariants as field;
 
-use crate::bodies::number_at;
 use crate::checks::{check_call, check_order, check_row, check_sheet};
 use crate::job::Job;
 use crate::reader::Reader;
+use catalogue::number_at;
 use rules::{Fault, Request, Row};
 
 impl Reader<'_> {
