@@ -55,7 +55,7 @@ read_runs (suc most) at s t bs small l h =
     let g = read_runs most (at + r.size) r.reading t (drop r.size bs) (All-drop (λ b. b < 2 ^ 8) r.size bs small) left p.2 in
     record {
       entries = f.entry ∷ g.entries;
-      runs = go f.takes (subst (λ n. Runs (at + n) r.reading g.entries t) f.size g.runs);
+      runs = go {es = g.entries} f.takes (subst (λ n. Runs (at + n) r.reading g.entries t) f.size g.runs);
       written = sym (take-append-drop r.size bs) ∙ ap₂ ◌++◌ f.written g.written;
     })
 

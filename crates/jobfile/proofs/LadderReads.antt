@@ -1,10 +1,8 @@
 -- What a reader comes to with a ladder field. Assumes nothing.
-use Rattle.std.proofs.Common.{◌≡◌, ℕ, suc, ◌+◌, ◌*◌, ◌≤◌, List, [], ◌∷◌, ◌++◌, map, length, get_or, drop, Ok, Option, sym, ap, ◌∙◌, ap₂}
+use Rattle.std.proofs.Common.{◌≡◌, ℕ, suc, ◌+◌, ◌*◌, List, [], ◌∷◌, ◌++◌, map, length, get_or, drop, Ok, Option, sym, ap, ◌∙◌, ap₂}
 use Rattle.std.proofs.lemmas.List.{length-map, map_push}
-use Rattle.std.proofs.lemmas.Bool.{and_parts, eqb-true, leb-true}
 use Rattle.rules.specs.declared.refusals.Fault.{Fault}
 use Rattle.rules.specs.Openings.{first_fault}
-use Rattle.rules.proofs.TestLists.{all_passed, test_passed}
 use Rattle.catalogue.specs.declared.rung.Rung.{Rung}
 use Rattle.catalogue.specs.declared.ladder.Ladder.{Ladder}
 use Rattle.catalogue.specs.Ladder.{with_place}
@@ -15,24 +13,12 @@ use Rattle.jobfile.specs.Stated.{RungStated, LadderStated, Stated}
 use Rattle.jobfile.specs.Reading.{after_tests, content_tests, decode, ladder_tests, numbers_in, rung_amount, rungs_in}
 use Rattle.jobfile.specs.InMemory.{ladder_of_place, ladders_of, rungs_of}
 use Rattle.jobfile.specs.Readers.{front_job, with_body}
-use Rattle.jobfile.proofs.TestLoops.{passed_tests}
 use Rattle.jobfile.proofs.BodyReads.{after_passed, front_with}
 use Rattle.jobfile.proofs.Listings.{length_listed}
 
 -- as many ladders are stated as the catalogue has
 pub length_ladders : (l : Ladder) → length (ladders_of l) ≡ length l.places.items
 length_ladders l = length-map l.places.items (ladder_of_place l.rows)
-
--- what the tests of a ladder field find, by its place and count, how many places there are, and the rungs
-abbrev pub found_in_ladder : Reader → ℕ → ℕ → ℕ → List RungStated → Option Fault
-found_in_ladder r q count found gs = first_fault (ladder_tests r.job.sheet.places r.job.sheet.last_row found q count (rung_amount gs) r.at)
-
--- the place's turn, among what the tests say that passed
-pub turn_passed : (r : Reader) (q count found : ℕ) (gs : List RungStated) → after_tests (found_in_ladder r q count found gs) (tt {0}) ≡ Ok (tt {0}) → (q ≡ suc found) × (q ≤ r.job.sheet.places)
-turn_passed r q count found gs h =
-    let all = all_passed (ladder_tests r.job.sheet.places r.job.sheet.last_row found q count (rung_amount gs) r.at) (passed_tests _ _ _ h).0 in
-    let turn = and_parts _ _ (test_passed _ _ all.0) in
-    (eqb-true q (suc found) turn.0, leb-true q r.job.sheet.places turn.1)
 
 module _ (r : Reader) (body : List ℕ) where
   abbrev said : List RungStated
@@ -41,10 +27,13 @@ module _ (r : Reader) (body : List ℕ) where
   abbrev pub tests_of_body : Option Fault
   tests_of_body = first_fault (content_tests (front_job r) (decode (front_job r) field.Ladder body) r.at)
 
-  pub ladder_tests_are : (q count found : ℕ) (gs : List RungStated) → q ≡ get_or body 0 0 → count ≡ get_or body 1 0 → found ≡ length r.job.listing.places.items + length r.job.ladder.places.items → gs ≡ said → found_in_ladder r q count found gs ≡ tests_of_body
-  ladder_tests_are q count found gs place versions counted is =
-      ap₂ (λ q count. found_in_ladder r q count found gs) place versions
-      ∙ ap₂ (found_in_ladder r (get_or body 0 0) (get_or body 1 0)) (counted ∙ sym (ap₂ (λ a b. a + b) (length_listed r.file.now r.job.listing) (length_ladders r.job.ladder))) is
+  -- what the tests find that are made of the body, by the last row, the place, the count and the rungs that it says
+  pub ladder_tests_are : (m q count found : ℕ) (gs : List Rung) → m ≡ r.job.sheet.last_row → q ≡ get_or body 0 0 → count ≡ get_or body 1 0 → found ≡ length r.job.listing.places.items + length r.job.ladder.places.items → rungs_of (suc r.job.sheet.last_row) gs ≡ said → first_fault (ladder_tests r.job.sheet.places m found q count (rung_amount (rungs_of (suc m) gs)) r.at) ≡ tests_of_body
+  ladder_tests_are m q count found gs rows place versions counted is =
+      let by : ℕ → ℕ → ℕ → ℕ → List RungStated → Option Fault = λ m q count found gs. first_fault (ladder_tests r.job.sheet.places m found q count (rung_amount gs) r.at) in
+      ap (λ m. by m q count found (rungs_of (suc m) gs)) rows
+      ∙ ap₂ (λ q count. by r.job.sheet.last_row q count found (rungs_of (suc r.job.sheet.last_row) gs)) place versions
+      ∙ ap₂ (by r.job.sheet.last_row (get_or body 0 0) (get_or body 1 0)) (counted ∙ sym (ap₂ (λ a b. a + b) (length_listed r.file.now r.job.listing) (length_ladders r.job.ladder))) is
 
   abbrev with_ladder : Ladder → Job
   with_ladder l = record { sheet = r.job.sheet; calls = r.job.calls; listing = r.job.listing; ladder = l }

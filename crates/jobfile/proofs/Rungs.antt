@@ -23,15 +23,10 @@ stated g = record { base = g.base; step = g.step }
 abbrev pub rung_in : List ℕ → ℕ → RungStated
 rung_in bs r = record { base = number_at bs (2 + 8 * r); step = number_at bs (2 + 8 * r + 4) }
 
--- a rung gives the amount of its row, however many are in use
-pub rung_amount_at : (r v : ℕ) (gs : List Rung) (g : Rung) → r < most_rows → r < length gs → g ≡ get_or gs r g → rung g.base g.step v ≡ rung_amount (rungs_of most_rows gs) v r
-rung_amount_at r v gs g l m e =
-    ap (λ x. rung x.base x.step v) (ap stated e ∙ sym (get_or-map stated gs r g no_rung m) ∙ sym (get_or-take most_rows (map stated gs) r no_rung l) ∙ ap (λ xs. get_or xs r no_rung) (take-map stated most_rows gs))
-
-pub rungs_in_use : (n r v : ℕ) (gs : List Rung) → r < n → n ≤ most_rows → rung_amount (rungs_of most_rows gs) v r ≡ rung_amount (rungs_of n gs) v r
-rungs_in_use n r v gs l m =
-    let taken : (k : ℕ) → r < k → get_or (rungs_of k gs) r no_rung ≡ get_or (map stated gs) r no_rung = λ k in_use. ap (λ xs. get_or xs r no_rung) (sym (take-map stated k gs)) ∙ get_or-take k (map stated gs) r no_rung in_use in
-    ap (λ x. rung x.base x.step v) (taken most_rows (omega arith) ∙ sym (taken n l))
+-- a rung in use gives the amount of its row
+pub rung_amount_at : (n r v : ℕ) (gs : List Rung) (g : Rung) → r < n → r < length gs → g ≡ get_or gs r g → rung g.base g.step v ≡ rung_amount (rungs_of n gs) v r
+rung_amount_at n r v gs g l m e =
+    ap (λ x. rung x.base x.step v) (ap stated e ∙ sym (get_or-map stated gs r g no_rung m) ∙ sym (get_or-take n (map stated gs) r no_rung l) ∙ ap (λ xs. get_or xs r no_rung) (take-map stated n gs))
 
 -- the rungs by their rows are those that the body's numbers give
 from_row : (k a : ℕ) (bs : List ℕ) → rungs_in (numbers_in (2 * k) (drop (2 + 8 * a) bs)) ≡ map (rung_in bs) (range_with_len a k)

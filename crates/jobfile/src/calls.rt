@@ -1,6 +1,7 @@
 // The calls of a job, in the order in which they come.
-ghost use Rattle.std.specs.Prelude.{◌≡◌, [], ◌∷◌, ◌++◌, MatchResult};
-ghost use Rattle.jobfile.specs.CallTables.{calls_of, room_for_call};
+ghost use Rattle.std.specs.Prelude.{◌≡◌, [], ◌∷◌, ◌++◌, ◌≤◌, MatchResult};
+ghost use Rattle.arrayvec.specs.ArrayVec.{array_vec_len};
+ghost use Rattle.jobfile.specs.Bounds.{most_calls};
 
 use crate::bounds::MOST_CALLS;
 use arrayvec::ArrayVec;
@@ -10,9 +11,12 @@ use rules::{Refusal, Request};
 #[derive(Drop)]
 pub struct Calls {
     requests: ArrayVec<Request, MOST_CALLS>,
+    ghost few: { array_vec_len requests ≤ most_calls },
 }
 
 impl Calls {
+    ghost use Rattle.jobfile.specs.CallTables.{calls_of, room_for_call};
+
     // No call yet.
     pub fn none() -> Calls
         ensures { calls_of result ≡ [] }

@@ -48,8 +48,8 @@ impl Reader<'_> {
         ensures { BodyRead self.old field.Ladder body.now result self.new }
     {
         let found = self.job.listing.places() + self.job.ladder.places();
-        let ladder = LadderBody::new(body);
-        ladder.check(&self.job.sheet, found, self.at)?;
+        let ladder = LadderBody::new(self.job.sheet.last_row, body);
+        ladder.check(self.job.sheet.places, found, self.at)?;
         let Ok(()) = self.job.ladder.add(ladder.count, ladder.rungs) else {
             unreachable()
         };

@@ -8,14 +8,14 @@ use Rattle.jobfile.specs.Reading.{after_tests, row_amount_tests, rung_amount, am
 use Rattle.jobfile.proofs.TestLoops.{each_more, each_fails, passed_tests, failed_tests}
 use Rattle.jobfile.proofs.bodies.LadderBody.check_versions.Goals as goal
 
-tests : LadderBody → ℕ → ℕ → ℕ → List (Option Fault)
-tests l m at v = row_amount_tests m (rung_amount (rungs_of (suc m) l.rungs) v) (amount_fault at l.place v)
+tests : LadderBody → ℕ → ℕ → List (Option Fault)
+tests l at v = row_amount_tests l.last_row (rung_amount (rungs_of (suc l.last_row) l.rungs) v) (amount_fault at l.place v)
 
 pub returns-in_err-check_version : goal.returns-in_err-check_version
 unfolding tests
 returns-in_err-check_version c =
     let v = c.loop-version.version in
-    let each = tests c.args.self.now c.args.last_row c.args.at in
+    let each = tests c.args.self.now c.args.at in
     let p = err_from_is_err_and c.from_residual.result c.from_residual.ensures.1 in
     let found = failed_tests (first_fault (each v)) _ _ (sym c.check_version.ensures ∙ c.in_err-check_version.was) in
     rw (p.1, p.2) (sym (ap (λ o. after_tests o (tt {0})) (each_fails each c.args.self.now.count v (v - 1) _ (omega arith) (omega arith) c.loop-version.invariant found)))
@@ -24,7 +24,7 @@ pub loop-version-preserved : goal.loop-version-preserved
 unfolding tests
 loop-version-preserved c =
     let v = c.loop-version.version in
-    let each = tests c.args.self.now c.args.last_row c.args.at in
+    let each = tests c.args.self.now c.args.at in
     let passed = passed_tests (first_fault (each v)) _ _ (sym c.check_version.ensures ∙ c.in_ok-check_version.was) in
     let next : v ≡ v + 1 - 1 = omega arith in
     subst (λ k. first_fault (each_to each k) ≡ None) next (each_more each v (v - 1) (omega arith) c.loop-version.invariant passed.0)
@@ -33,7 +33,7 @@ pub returns-in_ok-check_version : goal.returns-in_ok-check_version
 unfolding tests
 returns-in_ok-check_version c =
     let v = c.loop-version.version in
-    let each = tests c.args.self.now c.args.last_row c.args.at in
+    let each = tests c.args.self.now c.args.at in
     let passed = passed_tests (first_fault (each v)) _ _ (sym c.check_version.ensures ∙ c.in_ok-check_version.was) in
     let last : v ≡ c.args.self.now.count = omega arith in
     sym (ap (λ o. after_tests o (tt {0})) (subst (λ k. first_fault (each_to each k) ≡ None) last (each_more each v (v - 1) (omega arith) c.loop-version.invariant passed.0)))

@@ -6,4 +6,4 @@ use Rattle.jobfile.proofs.bodies.LadderBody.check_versions.Given as goal
 
 abbrev pub invariant-loop-version : goal.invariant-loop-version
 invariant-loop-version l =
-    first_fault (each_to (λ v. row_amount_tests l.last_row (rung_amount (rungs_of (suc l.last_row) l.self.rungs) v) (amount_fault l.at l.self.place v)) (l.version - 1)) ≡ None
+    first_fault (each_to (λ v. row_amount_tests l.self.last_row (rung_amount (rungs_of (suc l.self.last_row) l.self.rungs) v) (amount_fault l.at l.self.place v)) (l.version - 1)) ≡ None

@@ -13,7 +13,7 @@ returns-in_err-check c =
     let l = c.new-ladder.result in
     let said = c.new-ladder.ensures in
     let p = err_from_is_err_and c.from_residual.result c.from_residual.ensures.1 in
-    let tests = ladder_tests_are r bs l.place l.count _ _ said.place said.count (ap₂ (λ a b. a + b) c.places.ensures c.places-2.ensures) (said.rungs r.job.sheet.last_row r.sound.few_rows) in
+    let tests = ladder_tests_are r bs l.last_row l.place l.count _ l.rungs said.last_row said.place said.count (ap₂ (λ a b. a + b) c.places.ensures c.places-2.ensures) said.rungs in
     body_failed r _ field.Ladder bs c.from_residual.result _ (p.1 ∙ ap Err p.2) (ap (λ o. after_tests o (tt {0})) (sym tests) ∙ sym c.check.ensures ∙ c.in_err-check.was) refl refl
 
 pub returns : goal.returns
@@ -22,11 +22,10 @@ returns c =
     let bs = c.args.body.now in
     let l = c.new-ladder.result in
     let said = c.new-ladder.ensures in
-    let rungs = said.rungs r.job.sheet.last_row r.sound.few_rows in
-    let tests = ladder_tests_are r bs l.place l.count _ _ said.place said.count (ap₂ (λ a b. a + b) c.places.ensures c.places-2.ensures) rungs in
+    let tests = ladder_tests_are r bs l.last_row l.place l.count _ l.rungs said.last_row said.place said.count (ap₂ (λ a b. a + b) c.places.ensures c.places-2.ensures) said.rungs in
     let did = c.in-Ok.ensures in
     record {
-      job = ladder_read r bs c.add.new.self l.count l.rungs said.count did.rows did.added rungs (ap (λ o. after_tests o (tt {0})) (sym tests) ∙ sym c.check.ensures ∙ c.in_ok-check.was);
+      job = ladder_read r bs c.add.new.self l.count l.rungs said.count did.rows did.added said.rungs (ap (λ o. after_tests o (tt {0})) (sym tests) ∙ sym c.check.ensures ∙ c.in_ok-check.was);
       file = refl;
       section = refl;
       at = refl;
