@@ -1,5 +1,5 @@
 -- The fields of a file one after the other. Assumes nothing.
-use Rattle.std.proofs.Common.{◌≡◌, ℕ, zero, suc, ◌+◌, ◌^◌, ◌<◌, ◌≤◌, eqb, List, [], ◌∷◌, ◌++◌, length, drop, Ok, Err, Result, sym, refl, ap, ◌∙◌, subst, ap₂, arith, length-append, length-drop}
+use Rattle.std.proofs.Common.{◌≡◌, ℕ, zero, suc, ◌+◌, ◌^◌, ◌<◌, ◌≤◌, eqb, List, [], ◌∷◌, ◌++◌, length, drop, Ok, Err, Result, sym, refl, ap, ◌∙◌, subst, arith, length-append, length-drop}
 use Rattle.std.proofs.ByRecursion.{All-drop}
 use Rattle.std.proofs.lemmas.List.{drop_at, take-append-drop}
 use Rattle.std.proofs.lemmas.Bool.{eqb-true, ne_eqb, cond-true, cond-false}
@@ -56,7 +56,7 @@ read_runs (suc most) at s t bs small l h =
     record {
       entries = f.entry ∷ g.entries;
       runs = go {es = g.entries} f.takes (subst (λ n. Runs (at + n) r.reading g.entries t) f.size g.runs);
-      written = sym (take-append-drop r.size bs) ∙ ap₂ ◌++◌ f.written g.written;
+      written = sym (take-append-drop r.size bs) ∙ ap (λ xs. xs ++ drop r.size bs) f.written ∙ ap (λ xs. field_bytes f.entry ++ xs) {x = drop r.size bs} {y = bytes_of g.entries} g.written;
     })
 
 pub runs_join : {at : ℕ} {s u t : Reading} {es fs : List Entry} → Runs at s es u → Runs (at + length (bytes_of es)) u fs t → Runs at s (es ++ fs) t

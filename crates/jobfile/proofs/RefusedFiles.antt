@@ -96,8 +96,8 @@ fields_fail (suc most) s f bs front small l at here h =
         subst (λ xs. Refused xs f) same
         (later t (drop r.size bs) m.0 (All-drop (λ x. x < 2 ^ 8) r.size bs small) (omega (arith, length-drop r.size bs, w.size)) (at + r.size) moved k)
 
-end_fails : (s : Reading) (f : Fault) (bs : List ℕ) → FrontOf s → bs ≡ bytes_of (fields_of s) → finish s (length bs) ≡ Err f → Refused bs f
-end_fails s f bs front e h =
+end_fails : (s : Reading) (f : Fault) (file : List ℕ) → FrontOf s → file ≡ bytes_of (fields_of s) → finish s (length file) ≡ Err f → Refused file f
+end_fails s f file front e h =
     subst (λ xs. Refused xs f) (sym e)
     (split (early s.section)
     (λ x. subst (Refused (bytes_of (fields_of s))) (ap (λ n. fault_in TagNotAllowed n 0 0 0) (sym (ap length e)) ∙ err_same (sym (cond-true (early s.section) _ _ x) ∙ h)) (no_order s.section s.job front x))
