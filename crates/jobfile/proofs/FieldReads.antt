@@ -1,19 +1,16 @@
 -- A field is read exactly where it is the writing of an entry that may come there. Assumes nothing.
-use Rattle.std.proofs.Common.{◌≡◌, ℕ, suc, ◌+◌, ◌*◌, ◌/◌, ◌%◌, ◌^◌, ◌<◌, ◌≤◌, Bool, true, false, cond, ◌&&◌, eqb, ltb, leb, List, [], ◌∷◌, ◌++◌, length, take, Some, None, Ok, Err, Option, Result, sym, refl, ap, ◌∙◌, ap₂, arith, length-append, length-take}
+use Rattle.std.proofs.Common.{◌≡◌, ℕ, suc, ◌+◌, ◌*◌, ◌/◌, ◌%◌, ◌^◌, ◌<◌, ◌≤◌, Bool, true, false, cond, eqb, leb, List, [], ◌∷◌, ◌++◌, length, take, Some, None, Ok, Err, Option, Result, sym, refl, ap, ◌∙◌, ap₂, arith, length-append, length-take}
 use Rattle.std.specs.List.{AllByRecursion}
 use Rattle.std.proofs.ByRecursion.{All-take}
 use Rattle.std.proofs.lemmas.List.{take_at}
-use Rattle.std.proofs.lemmas.Bool.{and_parts, eqb-true, eq-eqb, leb-true, le-leb, cond-true}
+use Rattle.std.proofs.lemmas.Bool.{eqb-true, eq-eqb, leb-true, le-leb, cond-true}
 use Rattle.rules.specs.declared.refusals.Fault.{Fault}
 use Rattle.rules.specs.Openings.{first_fault}
 use Rattle.rules.proofs.TestLists.{Passed, all_passed, none_first}
-use Rattle.jobfile.specs.declared.fields.Field.{Field}
-use Rattle.jobfile.specs.declared.fields.Field.TheVariants as field
-use Rattle.jobfile.specs.declared.fields.Section.{Section}
-use Rattle.jobfile.specs.declared.fields.Section.TheVariants as section
-use Rattle.jobfile.specs.Stated.{Stated}
 use Rattle.jobfile.specs.Writing.{Entry, field_of, tag_of, body, field_bytes}
 use Rattle.jobfile.specs.Reading.{Reading, Announced, next, announced, FieldRead, field_length, decode, content_tests, with_entry, after_tests, read_rest, read_announced, read_field}
+use Rattle.jobfile.proofs.TestLoops.{passed_tests}
+use Rattle.jobfile.proofs.Announcing.{announced_as}
 use Rattle.jobfile.proofs.Codec.{Bytes}
 use Rattle.jobfile.proofs.Decoding.{Shaped, Fits, field_decoded, body_decoded, decoded_body, length_body, shaped_decoded, fits_decoded}
 
@@ -27,7 +24,7 @@ pub record Takes (at : ℕ) (s : Reading) (e : Entry) (t : Reading) : Type 0 whe
 
 -- refusals and answers are told apart
 pub refused_ok : {X : Type 0} {f : Fault} {x : X} → ◌≡◌ {A = Result X Fault} (Err f) (Ok x) → ⊥
-refused_ok e = let z : ◌≡◌ {A = ℕ} 0 1 = cc in omega arith
+refused_ok e = cc
 
 pub ok_same : {X : Type 0} {x y : X} → ◌≡◌ {A = Result X Fault} (Ok x) (Ok y) → x ≡ y
 ok_same e = cc
@@ -35,10 +32,6 @@ ok_same e = cc
 pub passed_cond : {X : Type 0} {x : X} (b : Bool) (r : Result X Fault) (f : Fault) → cond b r (Err f) ≡ Ok x → (b ≡ true) × (r ≡ Ok x)
 passed_cond true r f e = (refl, e)
 passed_cond false r f e = absurd (refused_ok e)
-
-passed_tests : {X : Type 0} (o : Option Fault) (x y : X) → after_tests o x ≡ Ok y → (o ≡ None) × (x ≡ y)
-passed_tests None x y e = (refl, ok_same e)
-passed_tests (Some f) x y e = absurd (refused_ok e)
 
 -- the writing of an entry that may come is read as that entry
 pub entry_reads : (at : ℕ) (s : Reading) (e : Entry) (t : Reading) (rest : List ℕ) → Takes at s e t → read_field s (field_bytes e ++ rest) at ≡ Ok (record { size = length (field_bytes e); reading = t })
@@ -57,39 +50,6 @@ entry_reads at s e t rest k =
     ∙ ap rd says
     ∙ ap (λ o. after_tests o (record { size = 3 + len; reading = record { section = t.section; job = with_entry s.job e } })) (none_first (content_tests s.job e at) k.passes)
     ∙ ap₂ (λ n j. Ok (record { size = n; reading = record { section = t.section; job = j } })) {x = 3 + len} {y = length (field_bytes e)} (omega arith) (sym k.adds)
-
--- the tag that announces a field is the field's
-tag_cond : (b : Bool) (f : Field) (c : Section) (y : Announced) (r : Option Announced) (P : Type 0) → (b ≡ true → f ≡ y.field → P) → (r ≡ Some y → P) → cond b (next f c) r ≡ Some y → P
-tag_cond true f c y r P g h e = let same : record { field = f; section = c } ≡ y = cc in g refl (ap (λ x. x.field) same)
-tag_cond false f c y r P g h e = h e
-
-module _ (tag : ℕ) (y : Announced) where
-  abbrev Right : Type 0
-  Right = tag ≡ tag_of y.field
-
-  taken_tag : (g : Field) → eqb tag (tag_of g) ≡ true → g ≡ y.field → Right
-  taken_tag g h e = eqb-true tag (tag_of g) h ∙ ap tag_of e
-
-  no_more : None ≡ Some y → Right
-  no_more e = let z : ◌≡◌ {A = ℕ} 0 1 = cc in absurd (omega arith)
-
-  call_tag : cond (eqb tag 6) (next field.Call section.Calls) None ≡ Some y → Right
-  call_tag = tag_cond (eqb tag 6) field.Call section.Calls y None Right (taken_tag field.Call) no_more
-
-  ladder_tag : cond (eqb tag 5) (next field.Ladder section.Ladders) (cond (eqb tag 6) (next field.Call section.Calls) None) ≡ Some y → Right
-  ladder_tag = tag_cond (eqb tag 5) field.Ladder section.Ladders y _ Right (taken_tag field.Ladder) call_tag
-
-  announced_tag : (j : Stated) (s : Section) → announced j s tag ≡ Some y → Right
-  announced_tag j section.Start = tag_cond (eqb tag 1) field.Sheet section.Rows y None Right (taken_tag field.Sheet) no_more
-  announced_tag j section.Rows =
-      tag_cond (eqb tag 2 && ltb (length j.rows) j.last_row) field.Row section.Rows y _ Right
-      (λ h. taken_tag field.Row (and_parts _ _ h).0)
-      (tag_cond (eqb tag 3 && eqb (length j.rows) j.last_row) field.Order section.Versions y None Right
-      (λ h. taken_tag field.Order (and_parts _ _ h).0)
-      no_more)
-  announced_tag j section.Versions = tag_cond (eqb tag 4) field.Version section.Versions y _ Right (taken_tag field.Version) ladder_tag
-  announced_tag j section.Ladders = ladder_tag
-  announced_tag j section.Calls = call_tag
 
 -- what is read is the writing of an entry that may come
 pub record ReadAs (at : ℕ) (s : Reading) (bs : List ℕ) (k : ℕ) (t : Reading) : Type 0 where
@@ -125,7 +85,7 @@ module _ (at : ℕ) (s : Reading) (a b c : ℕ) (tail : List ℕ) (small : Bytes
       let is : body e ≡ take len tail = body_decoded s.job p.field (take len tail) small_body (cut ∙ fit) in
       let whole : length (body e) ≡ len = ap length is ∙ cut in
       let same : field_of e ≡ p.field = field_decoded s.job p.field (take len tail) in
-      let its_tag : a ≡ tag_of (field_of e) = announced_tag a p s.job s.section said ∙ ap tag_of (sym same) in
+      let its_tag : a ≡ tag_of (field_of e) = (announced_as (length s.job.rows) s.job.last_row a s.section p said).0 ∙ ap tag_of (sym same) in
       let high : b ≡ length (body e) / 256 = omega (arith, whole, small.1.1.0) in
       let low : c ≡ length (body e) % 256 = omega (arith, whole, small.1.1.0) in
       record { kind = same; tag = its_tag; fit = cut ∙ fit; bytes = small_body; full = whole; written = front e its_tag high low is }

@@ -1,12 +1,12 @@
 -- The fields of a file one after the other. Assumes nothing.
-use Rattle.std.proofs.Common.{◌≡◌, ℕ, zero, suc, ◌+◌, ◌^◌, ◌<◌, ◌≤◌, eqb, List, [], ◌∷◌, ◌++◌, length, drop, Ok, Err, Result, sym, refl, ap, ◌∙◌, subst, ap₂, arith, length-append, length-drop}
+use Rattle.std.proofs.Common.{◌≡◌, ℕ, zero, suc, ◌+◌, ◌^◌, ◌<◌, ◌≤◌, eqb, List, [], ◌∷◌, ◌++◌, length, drop, Ok, Err, Result, sym, refl, ap, ◌∙◌, subst, arith, length-append, length-drop}
 use Rattle.std.proofs.ByRecursion.{All-drop}
 use Rattle.std.proofs.lemmas.List.{drop_at, take-append-drop}
 use Rattle.std.proofs.lemmas.Bool.{eqb-true, ne_eqb, cond-true, cond-false}
 use Rattle.rules.specs.declared.refusals.Fault.{Fault}
 use Rattle.rules.proofs.Bools.{split}
 use Rattle.jobfile.specs.Writing.{Entry, field_bytes, bytes_of}
-use Rattle.jobfile.specs.Reading.{Reading, FieldRead, then, read_field, read_fields}
+use Rattle.jobfile.specs.Reading.{Reading, FieldRead, and_then, read_field, read_fields}
 use Rattle.jobfile.proofs.Codec.{Bytes}
 use Rattle.jobfile.proofs.FieldReads.{Takes, refused_ok, entry_reads, field_reads}
 
@@ -24,11 +24,11 @@ runs_read (suc most) {at} {s} {t} (go {u = u} {e = e} {es = es} k r) h =
     let whole = length-append (field_bytes e) (bytes_of es) in
     let more : FieldRead → Result Reading Fault = λ p. read_fields most p.reading (drop p.size (field_bytes e ++ bytes_of es)) (at + p.size) in
     cond-false (eqb (length (field_bytes e ++ bytes_of es)) 0) _ _ (ne_eqb _ 0 (λ z. omega (arith, whole)))
-    ∙ ap (λ o. then o more) (entry_reads at s e u (bytes_of es) k)
+    ∙ ap (λ o. and_then o more) (entry_reads at s e u (bytes_of es) k)
     ∙ ap (λ bs. read_fields most u bs (at + length (field_bytes e))) (drop_at (field_bytes e) (bytes_of es) (length (field_bytes e)) refl)
     ∙ runs_read most r (omega (arith, whole))
 
-pub passed_then : {X Y : Type 0} (o : Result X Fault) (f : X → Result Y Fault) (y : Y) → then o f ≡ Ok y → (x : X) × (o ≡ Ok x) × (f x ≡ Ok y)
+pub passed_then : {X Y : Type 0} (o : Result X Fault) (f : X → Result Y Fault) (y : Y) → and_then o f ≡ Ok y → (x : X) × (o ≡ Ok x) × (f x ≡ Ok y)
 passed_then (Ok x) f y e = (x, refl, e)
 passed_then (Err x) f y e = absurd (refused_ok e)
 
@@ -55,8 +55,8 @@ read_runs (suc most) at s t bs small l h =
     let g = read_runs most (at + r.size) r.reading t (drop r.size bs) (All-drop (λ b. b < 2 ^ 8) r.size bs small) left p.2 in
     record {
       entries = f.entry ∷ g.entries;
-      runs = go f.takes (subst (λ n. Runs (at + n) r.reading g.entries t) f.size g.runs);
-      written = sym (take-append-drop r.size bs) ∙ ap₂ ◌++◌ f.written g.written;
+      runs = go {es = g.entries} f.takes (subst (λ n. Runs (at + n) r.reading g.entries t) f.size g.runs);
+      written = sym (take-append-drop r.size bs) ∙ ap (λ xs. xs ++ drop r.size bs) f.written ∙ ap (λ xs. field_bytes f.entry ++ xs) {x = drop r.size bs} {y = bytes_of g.entries} g.written;
     })
 
 pub runs_join : {at : ℕ} {s u t : Reading} {es fs : List Entry} → Runs at s es u → Runs (at + length (bytes_of es)) u fs t → Runs at s (es ++ fs) t

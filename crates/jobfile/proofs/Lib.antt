@@ -1,4 +1,6 @@
 pub mod TestLoops
+pub mod Counted
+pub mod Announcing
 pub mod Codec
 pub mod Rungs
 pub mod Decoding
@@ -9,9 +11,7 @@ pub mod Listings
 pub mod BodyReads
 pub mod VersionReads
 pub mod LadderReads
-pub mod RestReads
 pub mod FieldSteps
-pub mod Finishes
 pub mod FieldLoops
 pub mod WholeReads
 pub mod SameAnswers

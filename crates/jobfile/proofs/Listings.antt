@@ -1,8 +1,8 @@
 -- The places of a listing, and what a version field adds to them. Assumes nothing.
-use Rattle.std.proofs.Common.{◌≡◌, ℕ, zero, suc, ◌+◌, ◌-◌, ◌*◌, ◌<◌, ◌≤◌, List, [], ◌∷◌, ◌++◌, map, length, get_or, take, drop, set, pos, Option, sym, refl, ap, ◌∙◌, ap₂, inl, inr, arith, length-take, get_or-take}
+use Rattle.std.proofs.Common.{◌≡◌, ℕ, zero, suc, ◌+◌, ◌-◌, ◌*◌, ◌<◌, ◌≤◌, leb, List, [], length, get_or, take, drop, pos, Option, sym, refl, ap, ◌∙◌, ap₂, inl, inr, arith}
 use Rattle.std.proofs.lemmas.List.FromFn.{length-map-range_with_len, fill_by_all}
-use Rattle.std.proofs.lemmas.List.{length-map, take_more_set, take-take, take-map, map_push, get_or-map, get_or_past}
-use Rattle.std.proofs.lemmas.Bool.{and_from, cond-true, cond-false, and_right, le-leb, lt-leb, cases_lt}
+use Rattle.std.proofs.lemmas.List.{length-map, get_or-map, get_or_past}
+use Rattle.std.proofs.lemmas.Bool.{cond-true, le-leb, cases_lt}
 use Rattle.rules.specs.Numbers.{number_at}
 use Rattle.rules.specs.declared.refusals.Fault.{Fault}
 use Rattle.rules.specs.Openings.{first_fault}
@@ -15,33 +15,23 @@ use Rattle.jobfile.specs.Readers.{front_job}
 use Rattle.jobfile.specs.InMemory.{amounts_at, versions_of, listed_of}
 use Rattle.jobfile.proofs.Codec.{amount_at, length_numbers, number_drop, number_take}
 
--- what is made of the places of a table, once the place behind some of them is set
-pub places_set : {X Y : Type 0} (f : X → Y) (xs : List X) (n i : ℕ) (x : X) → i ≤ n → i < length xs → map f (take (i + 1) (set xs i x)) ≡ take i (map f (take n xs)) ++ (f x ∷ [])
-places_set f xs n i x l m =
-    ap (map f) (take_more_set xs i x m) ∙ map_push f (take i xs) x ∙ ap (λ ys. ys ++ (f x ∷ [])) (sym (take-map f i (take n xs) ∙ ap (map f) (take-take i n xs l)))
-
 -- the versions that a place is stated with are those that it has in the listing
 module _ (bs : List ℕ) (l : Listing) where
-  pub held_at : (q : ℕ) → 1 ≤ q → q ≤ l.filled → get_or (listed_of bs l) (q - 1) [] ≡ versions_of bs l.rows (listed_at l.places q)
-  held_at q from to =
-      let in_use : q - 1 < length (take l.filled l.places) = omega (arith, length-take l.filled l.places, l.long, l.counted.2) in
-      let there : q - 1 < l.filled = omega arith in
-      get_or-map (versions_of bs l.rows) (take l.filled l.places) (q - 1) no_listed [] in_use ∙ ap (versions_of bs l.rows) (get_or-take l.filled l.places (q - 1) no_listed there)
+  pub held_at : (q : ℕ) → 1 ≤ q → q ≤ length l.places.items → get_or (listed_of bs l) (q - 1) [] ≡ versions_of bs l.rows (listed_at l.places.items q)
+  held_at q from to = get_or-map (versions_of bs l.rows) l.places.items (q - 1) no_listed [] (omega arith)
 
-  pub length_listed : length (listed_of bs l) ≡ l.filled
-  length_listed = length-map (take l.filled l.places) (versions_of bs l.rows) ∙ omega (arith, length-take l.filled l.places, l.long, l.counted.2)
+  pub length_listed : length (listed_of bs l) ≡ length l.places.items
+  length_listed = length-map l.places.items (versions_of bs l.rows)
 
-  pub held_past : (q : ℕ) → l.filled < q → get_or (listed_of bs l) (q - 1) [] ≡ []
+  pub held_past : (q : ℕ) → length l.places.items < q → get_or (listed_of bs l) (q - 1) [] ≡ []
   held_past q past = get_or_past (listed_of bs l) (q - 1) [] (omega (arith, length_listed))
 
-  pub length_held : (q : ℕ) → 1 ≤ q → length (get_or (listed_of bs l) (q - 1) []) ≡ versions_so_far l.filled l.places q
+  pub length_held : (q : ℕ) → 1 ≤ q → length (get_or (listed_of bs l) (q - 1) []) ≡ versions_so_far l.places.items q
   length_held q from =
-      elim (cases_lt l.filled q) [
-        | inl past ↦ ap length (held_past q past) ∙ sym (cond-false _ _ _ (and_right _ _ (lt-leb q l.filled past)))
-        | inr to ↦
-            ap length (held_at q from to) ∙ length-map-range_with_len (λ k. amounts_at bs l.rows (behind l.rows (listed_at l.places q) k)) 0 (listed_at l.places q).count
-            ∙ sym (cond-true _ _ _ (and_from _ _ (le-leb 1 q from) (le-leb q l.filled to)))
-      ]
+      elim (cases_lt (length l.places.items) q) [
+        | inl past ↦ ap length (held_past q past) ∙ sym (ap (λ p. p.count) (get_or_past l.places.items (q - 1) no_listed (omega arith)))
+        | inr to ↦ ap length (held_at q from to) ∙ length-map-range_with_len (λ k. amounts_at bs l.rows (behind l.rows (listed_at l.places.items q) k)) 0 (listed_at l.places.items q).count
+      ] ∙ sym (cond-true (leb 1 q) (listed_at l.places.items q).count 0 (le-leb 1 q from))
 
 -- what the tests of a version field find, by its place, how many places are listed, and how many versions its place has
 abbrev pub found_in_version : Reader → List ℕ → ℕ → ℕ → ℕ → Option Fault
@@ -49,7 +39,7 @@ found_in_version r body q listed has = first_fault (version_tests r.job.sheet.pl
 
 -- the same by what the listing holds
 abbrev pub found_by_listing : Reader → List ℕ → ℕ → Option Fault
-found_by_listing r body q = found_in_version r body q r.job.listing.filled (versions_so_far r.job.listing.filled r.job.listing.places q)
+found_by_listing r body q = found_in_version r body q (length r.job.listing.places.items) (versions_so_far r.job.listing.places.items q)
 
 by_place : (r : Reader) (body : List ℕ) (q : ℕ) → found_by_listing r body q ≡ found_in_version r body q (length (front_job r).listed) (length (held (front_job r) q))
 by_place r body zero = refl

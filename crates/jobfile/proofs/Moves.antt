@@ -26,7 +26,7 @@ same_next : {f : Field} {a b : Section} → next f a ≡ next f b → a ≡ b
 same_next {f} {a} {b} e = let same : ◌≡◌ {A = Announced} (record { field = f; section = a }) (record { field = f; section = b }) = cc in ap (λ x. x.section) same
 
 no_next : {f : Field} {d : Section} {P : Type 0} → None ≡ next f d → P
-no_next e = let z : ◌≡◌ {A = ℕ} 0 1 = cc in absurd (omega arith)
+no_next e = absurd (cc)
 
 cond_next : (b : Bool) {f : Field} {a d : Section} → cond b (next f a) None ≡ next f d → (b ≡ true) × (a ≡ d)
 cond_next true e = (refl, same_next e)

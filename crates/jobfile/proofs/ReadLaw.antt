@@ -9,7 +9,7 @@ use Rattle.jobfile.specs.Bounds.{most_bytes}
 use Rattle.jobfile.specs.Stated.{Stated}
 use Rattle.jobfile.specs.Writing.{bytes_of, entries, encode}
 use Rattle.jobfile.specs.Validity.{Valid, States}
-use Rattle.jobfile.specs.Reading.{Reading, fresh, then, read_fields, early, finish, read}
+use Rattle.jobfile.specs.Reading.{Reading, fresh, and_then, read_fields, early, finish, read}
 use Rattle.jobfile.specs.Theorems.{ReadLaw}
 use Rattle.jobfile.proofs.Codec.{Bytes}
 use Rattle.jobfile.proofs.FieldReads.{refused_ok, ok_same, passed_cond}
@@ -76,7 +76,7 @@ stated : (j : Stated) → Valid j → read (encode j) ≡ Ok j
 unfolding read
 stated j v =
     cond-true (leb (length (encode j)) most_bytes) _ _ (le-leb _ _ v.short)
-    ∙ ap (λ o. then o (λ s. finish s (length (encode j)))) (runs_read (length (encode j)) (written_runs j v) (omega arith))
+    ∙ ap (λ o. and_then o (λ s. finish s (length (encode j)))) (runs_read (length (encode j)) (written_runs j v) (omega arith))
     ∙ cond-false (early (last_section j v)) _ _ (late_section j.ladders j.calls)
     ∙ cond-true (eqb (length j.listed + length j.ladders) j.places) _ _ (eq-eqb _ _ v.place_count)
 

@@ -10,9 +10,10 @@ use Rattle.rules.specs.Refusals.{fault_in}
 use Rattle.rules.proofs.Bools.{split}
 use Rattle.jobfile.specs.Bounds.{most_bytes}
 use Rattle.jobfile.specs.Writing.{Entry, field_bytes, bytes_of}
-use Rattle.jobfile.specs.Reading.{Reading, fresh, Announced, next, announced, field_length, decode, content_tests, after_tests, then, FieldRead, read_rest, read_announced, read_field, read_fields, early, finish, read}
+use Rattle.jobfile.specs.Reading.{Reading, fresh, Announced, next, announced, field_length, decode, content_tests, after_tests, and_then, FieldRead, read_rest, read_announced, read_field, read_fields, early, finish, read}
 use Rattle.jobfile.specs.Refusing.{FirstFailing, FieldFails, head_cut, tag_wrong, length_wrong, body_cut, contents_wrong, Refused, too_long, at_field, no_order, places_missing}
 use Rattle.jobfile.specs.Theorems.{RefusedLaw}
+use Rattle.jobfile.proofs.TestLoops.{failed_tests}
 use Rattle.jobfile.proofs.Codec.{Bytes}
 use Rattle.jobfile.proofs.FieldReads.{refused_ok, says, field_reads}
 use Rattle.jobfile.proofs.FileRuns.{read_runs}
@@ -23,18 +24,14 @@ err_same : {X : Type 0} {f g : Fault} → ◌≡◌ {A = Result X Fault} (Err f)
 err_same e = cc
 
 first_failing : (ts : List (Option Fault)) (f : Fault) → first_fault ts ≡ Some f → FirstFailing ts f
-first_failing [] f e = let z : ◌≡◌ {A = ℕ} 0 1 = cc in absurd (omega arith)
+first_failing [] f e = absurd (cc)
 first_failing (Some g ∷ ts) f e = let same : g ≡ f = cc in record { before = []; after = ts; are = ap (λ x. Some x ∷ ts) same; passed = tt }
 first_failing (None ∷ ts) f e =
     let r = first_failing ts f e in
     record { before = None ∷ r.before; after = r.after; are = ap (λ x. None ∷ x) r.are; passed = (refl, r.passed) }
 
 tests_refuse : {X : Type 0} (ts : List (Option Fault)) (x : X) (f : Fault) → after_tests (first_fault ts) x ≡ Err f → FirstFailing ts f
-tests_refuse {X} ts x f h = by (first_fault ts) refl h
-  where
-    by : (o : Option Fault) → first_fault ts ≡ o → after_tests o x ≡ Err f → FirstFailing ts f
-    by None e h = absurd (refused_ok (sym h))
-    by (Some g) e h = let same : g ≡ f = err_same h in first_failing ts f (e ∙ ap Some same)
+tests_refuse ts x f h = first_failing ts f (failed_tests (first_fault ts) x f h)
 
 module _ (at : ℕ) (s : Reading) (f : Fault) (a b c : ℕ) (tail : List ℕ) (small : Bytes (a ∷ (b ∷ (c ∷ tail)))) where
   abbrev bs : List ℕ
@@ -83,7 +80,7 @@ fields_fail (suc most) s f bs front small l at here h =
     (λ z. absurd (refused_ok (sym (sym (cond-true (eqb (length bs) 0) (Ok s) _ z) ∙ h))))
     (λ z. by (λ t bs. fields_fail most t f bs) (read_field s bs at) refl (sym (cond-false (eqb (length bs) 0) (Ok s) _ z) ∙ h))
   where
-    by : ((t : Reading) (bs : List ℕ) → FrontOf t → Bytes bs → length bs ≤ most → (at : ℕ) → at ≡ length (bytes_of (fields_of t)) → read_fields most t bs at ≡ Err f → Refused (bytes_of (fields_of t) ++ bs) f) → (o : Result FieldRead Fault) → read_field s bs at ≡ o → then o (λ p. read_fields most p.reading (drop p.size bs) (at + p.size)) ≡ Err f → Refused (bytes_of (fields_of s) ++ bs) f
+    by : ((t : Reading) (bs : List ℕ) → FrontOf t → Bytes bs → length bs ≤ most → (at : ℕ) → at ≡ length (bytes_of (fields_of t)) → read_fields most t bs at ≡ Err f → Refused (bytes_of (fields_of t) ++ bs) f) → (o : Result FieldRead Fault) → read_field s bs at ≡ o → and_then o (λ p. read_fields most p.reading (drop p.size bs) (at + p.size)) ≡ Err f → Refused (bytes_of (fields_of s) ++ bs) f
     by later (Err g) e k =
         let same : g ≡ f = err_same k in
         at_field s.section s.job bs front (subst (λ n. FieldFails s.section s.job bs n f) here (field_fails at s f bs small (e ∙ ap Err same)))
@@ -99,8 +96,8 @@ fields_fail (suc most) s f bs front small l at here h =
         subst (λ xs. Refused xs f) same
         (later t (drop r.size bs) m.0 (All-drop (λ x. x < 2 ^ 8) r.size bs small) (omega (arith, length-drop r.size bs, w.size)) (at + r.size) moved k)
 
-end_fails : (s : Reading) (f : Fault) (bs : List ℕ) → FrontOf s → bs ≡ bytes_of (fields_of s) → finish s (length bs) ≡ Err f → Refused bs f
-end_fails s f bs front e h =
+end_fails : (s : Reading) (f : Fault) (file : List ℕ) → FrontOf s → file ≡ bytes_of (fields_of s) → finish s (length file) ≡ Err f → Refused file f
+end_fails s f file front e h =
     subst (λ xs. Refused xs f) (sym e)
     (split (early s.section)
     (λ x. subst (Refused (bytes_of (fields_of s))) (ap (λ n. fault_in TagNotAllowed n 0 0 0) (sym (ap length e)) ∙ err_same (sym (cond-true (early s.section) _ _ x) ∙ h)) (no_order s.section s.job front x))
@@ -119,7 +116,7 @@ refused_law bs small f h =
     (λ x. by (read_fields (length bs) fresh bs 0) refl (sym (cond-true (leb (length bs) most_bytes) _ _ x) ∙ h))
     (λ x. subst (Refused bs) (err_same (sym (cond-false (leb (length bs) most_bytes) _ _ x) ∙ h)) (too_long (leb-false _ _ x)))
   where
-    by : (o : Result Reading Fault) → read_fields (length bs) fresh bs 0 ≡ o → then o (λ s. finish s (length bs)) ≡ Err f → Refused bs f
+    by : (o : Result Reading Fault) → read_fields (length bs) fresh bs 0 ≡ o → and_then o (λ s. finish s (length bs)) ≡ Err f → Refused bs f
     by (Err g) e k = let same : g ≡ f = err_same k in fields_fail (length bs) fresh f bs tt small (omega arith) 0 refl (e ∙ ap Err same)
     by (Ok s) e k =
         let r = read_runs (length bs) 0 fresh s bs small (omega arith) e in

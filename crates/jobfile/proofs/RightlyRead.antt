@@ -1,12 +1,13 @@
 -- What is promised of reading a file. Assumes nothing.
-use Rattle.std.proofs.Common.{◌≡◌, ℕ, ◌+◌, ◌≤◌, List, IfOk, Ok, Err, Result, sym, ap, ◌∙◌, arith}
+use Rattle.std.proofs.Common.{◌≡◌, ℕ, ◌+◌, ◌≤◌, List, length, IfOk, Ok, Err, Result, sym, ap, ◌∙◌, arith}
 use Rattle.rules.specs.declared.refusals.Fault.{Fault}
 use Rattle.rules.specs.Bounds.{most_places}
 use Rattle.rules.specs.Catalogues.{SameAnswers}
 use Rattle.jobfile.specs.declared.job.Job.{Job}
 use Rattle.jobfile.specs.Opened.{stated_meaning}
 use Rattle.jobfile.specs.Reading.{read}
-use Rattle.jobfile.specs.Jobs.{RightlyRead, SameRows, job_meaning, says, stated_by}
+use Rattle.jobfile.specs.Jobs.{RightlyRead, job_meaning, says, stated_by}
+use Rattle.jobfile.specs.Sound.{SameRows}
 use Rattle.jobfile.proofs.Codec.{Bytes}
 use Rattle.jobfile.proofs.LadderReads.{length_ladders}
 use Rattle.jobfile.proofs.Listings.{length_listed}
@@ -19,7 +20,7 @@ module _ (file : List ℕ) (small : Bytes file) where
   catalogue_read (Err f) is rows = tt
   catalogue_read (Ok j) is rows =
       let valid = ((read_law file small (stated_by file j)).0 (sym is)).0 in
-      let few : j.listing.filled + j.ladder.filled ≤ most_places = omega (arith, valid.place_count, valid.few_places, length_listed file j.listing, length_ladders j.ladder) in
+      let few : length j.listing.places.items + length j.ladder.places.items ≤ most_places = omega (arith, valid.place_count, valid.few_places, length_listed file j.listing, length_ladders j.ladder) in
       meaning_read file j rows few
 
   pub rightly_read : (answer : Result Job Fault) → says file answer ≡ read file → IfOk answer SameRows → RightlyRead file answer

@@ -1,36 +1,32 @@
 -- The rungs of a ladder in a table, and in the body of a field. Assumes nothing.
-use Rattle.std.proofs.Common.{◌≡◌, ℕ, zero, suc, ◌+◌, ◌*◌, ◌<◌, List, [], ◌∷◌, ◌++◌, map, length, get_or, take, drop, set, sym, refl, ap, ◌∙◌, ap₂, arith}
+use Rattle.std.proofs.Common.{◌≡◌, ℕ, zero, suc, ◌+◌, ◌*◌, ◌<◌, ◌≤◌, List, ◌∷◌, map, length, get_or, get_or-take, take, drop, sym, refl, ap, ◌∙◌, ap₂, subst, inl, inr, arith}
 use Rattle.std.specs.List.{range_with_len}
-use Rattle.std.proofs.lemmas.List.FromFn.{map-range_with_len_more}
-use Rattle.std.proofs.lemmas.List.{take_more_set, map_push, drop-drop}
+use denote.Param.Members.{Mut, Called}
+use Rattle.std.specs.Array.{IsFromFnResult, IsFromFnResultFrom}
+use Rattle.std.proofs.lemmas.Bool.{cases_lt}
+use Rattle.std.proofs.lemmas.List.FromFn.{take-map-range_with_len, fill_by_all}
+use Rattle.rules.specs.Bounds.{most_rows, greatest_row}
+use Rattle.std.proofs.lemmas.List.{length-map, get_or-map, take-map, drop-drop}
 use Rattle.rules.specs.Numbers.{number_at}
 use Rattle.rules.specs.Catalogues.{rung}
 use Rattle.catalogue.specs.declared.rung.Rung.{Rung}
 use Rattle.jobfile.specs.Stated.{RungStated}
 use Rattle.jobfile.specs.InMemory.{rungs_of}
-use Rattle.jobfile.specs.Reading.{numbers_in, rungs_in, rung_amount}
+use Rattle.jobfile.specs.Reading.{no_rung, numbers_in, rungs_in, rung_amount}
 use Rattle.jobfile.proofs.Codec.{number_drop}
 
--- a rung in use gives the amount of its row
-pub rung_amount_at : (rows r v : ℕ) (gs : List Rung) (g : Rung) → r < rows → r < length gs → g ≡ get_or gs r g → rung g.base g.step v ≡ rung_amount (rungs_of rows gs) v r
-rung_amount_at zero r v gs g l m e = absurd (omega arith)
-rung_amount_at (suc rows) zero v (h ∷ gs) g l m e = ap (λ x. rung x.base x.step v) e
-rung_amount_at (suc rows) (suc r) v (h ∷ gs) g l m e = rung_amount_at rows r v gs g (omega arith) (omega arith) e
-rung_amount_at (suc rows) r v [] g l m e = absurd (omega arith)
+-- a rung as it is stated
+abbrev pub stated : Rung → RungStated
+stated g = record { base = g.base; step = g.step }
 
 -- the rung of a row in the body of a ladder field
 abbrev pub rung_in : List ℕ → ℕ → RungStated
 rung_in bs r = record { base = number_at bs (2 + 8 * r); step = number_at bs (2 + 8 * r + 4) }
 
--- one rung more in a table, in the row i
-pub rungs_more : (bs : List ℕ) (gs : List Rung) (r i : ℕ) (g : Rung) → i ≡ r → r < length gs → g.base ≡ number_at bs (2 + 8 * i) → g.step ≡ number_at bs (2 + 8 * i + 4) → rungs_of r gs ≡ map (rung_in bs) (range_with_len 0 r) → rungs_of (r + 1) (set gs i g) ≡ map (rung_in bs) (range_with_len 0 (r + 1))
-rungs_more bs gs r i g same l base step h =
-    let here : record { base = g.base; step = g.step } ≡ rung_in bs r = ap₂ (λ b s. record { base = b; step = s }) base step ∙ ap (rung_in bs) same in
-    ap (λ i. rungs_of (r + 1) (set gs i g)) same
-    ∙ ap (map (λ g. record { base = g.base; step = g.step })) (take_more_set gs r g l)
-    ∙ map_push (λ g. record { base = g.base; step = g.step }) (take r gs) g
-    ∙ ap₂ (λ xs x. xs ++ (x ∷ [])) h here
-    ∙ sym (map-range_with_len_more (rung_in bs) 0 r r (omega arith))
+-- a rung in use gives the amount of its row
+pub rung_amount_at : (n r v : ℕ) (gs : List Rung) (g : Rung) → r < n → r < length gs → g ≡ get_or gs r g → rung g.base g.step v ≡ rung_amount (rungs_of n gs) v r
+rung_amount_at n r v gs g l m e =
+    ap (λ x. rung x.base x.step v) (ap stated e ∙ sym (get_or-map stated gs r g no_rung m) ∙ sym (get_or-take n (map stated gs) r no_rung l) ∙ ap (λ xs. get_or xs r no_rung) (take-map stated n gs))
 
 -- the rungs by their rows are those that the body's numbers give
 from_row : (k a : ℕ) (bs : List ℕ) → rungs_in (numbers_in (2 * k) (drop (2 + 8 * a) bs)) ≡ map (rung_in bs) (range_with_len a k)
@@ -50,3 +46,26 @@ from_row (suc k) a bs =
 
 pub rungs_counted : (k : ℕ) (bs : List ℕ) → map (rung_in bs) (range_with_len 0 k) ≡ rungs_in (numbers_in (2 * k) (drop 2 bs))
 rungs_counted k bs = sym (from_row k 0 bs)
+
+-- a table of rungs that a closure made row by row, each from a body
+module _ {F : Type 0} (g : Mut F (ℕ × Unit {0}) Rung) (f : F) (bs : List ℕ) (makes : (r : ℕ) (y : Rung) (q : F) → r < most_rows → Called g f (r, tt) y q → (q ≡ f) × (y.base ≡ number_at bs (2 + 8 * r)) × (y.step ≡ number_at bs (6 + 8 * r))) where
+  made : (n i : ℕ) (ys : List Rung) → length ys ≡ most_rows → i + n ≤ most_rows → IsFromFnResultFrom g f ys i n → (r : ℕ) → i ≤ r → r < i + n → (d : RungStated) → get_or (map stated ys) r d ≡ rung_in bs r
+  made zero i ys long l h r from to d = absurd (omega arith)
+  made (suc n) i ys long l h r from to d =
+      let m = makes i h.1 h.0 (omega arith) h.3 in
+      elim (cases_lt i r) [
+        | inl later ↦ made n (i + 1) ys long (omega arith) (subst (λ q. IsFromFnResultFrom g q ys (i + 1) n) m.0 h.4) r (omega arith) (omega arith) d
+        | inr here ↦
+            let same : i ≡ r = omega arith in
+            let step : 6 + 8 * i ≡ 2 + 8 * i + 4 = omega arith in
+            get_or-map stated ys r h.1 d (omega (arith, long))
+            ∙ ap (λ k. stated (get_or ys k h.1)) (sym same)
+            ∙ ap stated h.2.0
+            ∙ ap₂ (λ b s. record { base = b; step = s }) m.1 (m.2 ∙ ap (number_at bs) step)
+            ∙ ap (rung_in bs) same
+      ]
+
+  pub rungs_made : (ys : List Rung) (m : ℕ) → m ≤ greatest_row → IsFromFnResult g f ys most_rows → rungs_of (suc m) ys ≡ rungs_in (numbers_in (2 * suc m) (drop 2 bs))
+  rungs_made ys m l h =
+      let all = fill_by_all (rung_in bs) (map stated ys) most_rows no_rung (length-map ys stated ∙ h.long) (λ r to. made most_rows 0 ys h.long (omega arith) h.each r (omega arith) to no_rung) in
+      sym (take-map stated (suc m) ys) ∙ ap (take (suc m)) all ∙ take-map-range_with_len (rung_in bs) 0 most_rows (suc m) (omega arith) ∙ rungs_counted (suc m) bs

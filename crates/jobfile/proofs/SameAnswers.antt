@@ -1,5 +1,5 @@
 -- The catalogue of a job in memory answers as that of the job that it states. Assumes nothing.
-use Rattle.std.proofs.Common.{◌≡◌, ℕ, zero, suc, ◌+◌, ◌-◌, ◌*◌, ◌<◌, ◌≤◌, Bool, true, false, cond, ◌&&◌, ltb, leb, List, [], ◌∷◌, map, length, get_or, take, ℤ, pos, Some, None, sym, refl, ap, ◌∙◌, ap₂, inl, inr, arith, length-take, get_or-take}
+use Rattle.std.proofs.Common.{◌≡◌, ℕ, zero, suc, ◌+◌, ◌-◌, ◌*◌, ◌<◌, ◌≤◌, Bool, true, false, cond, ◌&&◌, ltb, leb, List, [], ◌∷◌, map, length, get_or, take, ℤ, pos, Some, None, sym, refl, ap, ◌∙◌, ap₂, inl, inr, arith, get_or-take}
 use Rattle.std.proofs.lemmas.List.FromFn.{get_or-map-range_with_len, length-map-range_with_len}
 use Rattle.std.proofs.lemmas.List.{get_or-map}
 use Rattle.std.proofs.lemmas.Bool.{and_parts, cases_lt, cond-true, cond-false, leb-true, ltb-true, le-leb, lt-leb}
@@ -14,9 +14,10 @@ use Rattle.catalogue.specs.Listed.{amount_start, behind, listed_at}
 use Rattle.jobfile.specs.declared.job.Job.{Job}
 use Rattle.jobfile.specs.Stated.{RungStated}
 use Rattle.jobfile.specs.Opened.{ladder_of, no_ladder, stated_meaning}
-use Rattle.jobfile.specs.Reading.{held, ladder_amount, rung_amount}
+use Rattle.jobfile.specs.Reading.{held, rung_amount}
 use Rattle.jobfile.specs.InMemory.{amounts_at, ladder_of_place, ladders_of, rungs_of}
-use Rattle.jobfile.specs.Jobs.{SameRows, job_meaning, stated_by}
+use Rattle.jobfile.specs.Sound.{SameRows}
+use Rattle.jobfile.specs.Jobs.{job_meaning, stated_by}
 use Rattle.jobfile.proofs.LadderReads.{length_ladders}
 use Rattle.jobfile.proofs.Listings.{held_at, length_listed}
 
@@ -67,19 +68,23 @@ made_of f [] i d = refl
 made_of f (x ∷ xs) zero d = refl
 made_of f (x ∷ xs) (suc i) d = made_of f xs i d
 
-module _ (file : List ℕ) (j : Job) (rows : SameRows j) (few : j.listing.filled + j.ladder.filled ≤ most_places) where
-  listed : length (stated_by file j).listed ≡ j.listing.filled
+module _ (file : List ℕ) (j : Job) (rows : SameRows j) (few : length j.listing.places.items + length j.ladder.places.items ≤ most_places) where
+  abbrev listed_count : ℕ
+  listed_count = length j.listing.places.items
+
+  abbrev ladder_count : ℕ
+  ladder_count = length j.ladder.places.items
+
+  listed : length (stated_by file j).listed ≡ listed_count
   listed = length_listed file j.listing
 
   -- the place at a position behind the listed ones
-  ladder_there : (q : ℕ) → j.listing.filled < q → q ≤ j.listing.filled + j.ladder.filled → ladder_of (stated_by file j) q ≡ ladder_of_place j.ladder.rows (place_at j.ladder.places (q - j.listing.filled))
+  ladder_there : (q : ℕ) → listed_count < q → q ≤ listed_count + ladder_count → ladder_of (stated_by file j) q ≡ ladder_of_place j.ladder.rows (place_at j.ladder.places.items (q - listed_count))
   ladder_there q past to =
-      let i : q - suc j.listing.filled ≡ q - j.listing.filled - 1 = omega arith in
-      let in_use : q - suc j.listing.filled < length (take j.ladder.filled j.ladder.places) = omega (arith, length-take j.ladder.filled j.ladder.places, j.ladder.long, j.ladder.counted.2) in
-      let there : q - suc j.listing.filled < j.ladder.filled = omega arith in
+      let i : q - suc listed_count ≡ q - listed_count - 1 = omega arith in
       ap (λ n. get_or (ladders_of j.ladder) (q - suc n) no_ladder) listed
-      ∙ get_or-map (ladder_of_place j.ladder.rows) (take j.ladder.filled j.ladder.places) (q - suc j.listing.filled) no_place no_ladder in_use
-      ∙ ap (ladder_of_place j.ladder.rows) (get_or-take j.ladder.filled j.ladder.places (q - suc j.listing.filled) no_place there ∙ ap (λ k. get_or j.ladder.places k no_place) i)
+      ∙ get_or-map (ladder_of_place j.ladder.rows) j.ladder.places.items (q - suc listed_count) no_place no_ladder (omega arith)
+      ∙ ap (λ k. ladder_of_place j.ladder.rows (get_or j.ladder.places.items k no_place)) i
 
   -- a row of a rung
   rung_there : (p : LadderPlace) (row v : ℕ) → row < j.ladder.rows → rung (get_or p.rungs row no_rung).base (get_or p.rungs row no_rung).step v ≡ rung_amount (rungs_of j.ladder.rows p.rungs) v row
@@ -88,9 +93,9 @@ module _ (file : List ℕ) (j : Job) (rows : SameRows j) (few : j.listing.filled
       sym (ap (λ g. rung g.base g.step v) (made_of f (take j.ladder.rows p.rungs) row no_rung ∙ ap f (get_or-take j.ladder.rows p.rungs row no_rung l)))
 
   -- a row of a version of a listed place
-  amount_there_listed : (row q v : ℕ) → row < j.listing.rows → 1 ≤ q → q ≤ j.listing.filled → 1 ≤ v → v ≤ (listed_at j.listing.places q).count → number_at file (amount_start j.listing.rows (listed_at j.listing.places q) row v) ≡ get_or (get_or (held (stated_by file j) q) (v - 1) []) row (pos 0)
+  amount_there_listed : (row q v : ℕ) → row < j.listing.rows → 1 ≤ q → q ≤ listed_count → 1 ≤ v → v ≤ (listed_at j.listing.places.items q).count → number_at file (amount_start j.listing.rows (listed_at j.listing.places.items q) row v) ≡ get_or (get_or (held (stated_by file j) q) (v - 1) []) row (pos 0)
   amount_there_listed row q v in_row from to first last =
-      let p = listed_at j.listing.places q in
+      let p = listed_at j.listing.places.items q in
       let field : ℕ → List ℤ = λ k. amounts_at file j.listing.rows (behind j.listing.rows p k) in
       let version : v - 1 < p.count = omega arith in
       sym (ap (λ vs. get_or (get_or vs (v - 1) []) row (pos 0)) (held_at file j.listing q from to)
@@ -98,29 +103,29 @@ module _ (file : List ℕ) (j : Job) (rows : SameRows j) (few : j.listing.filled
       ∙ get_or-map-range_with_len (λ r. number_at file (behind j.listing.rows p (v - 1) + 4 + 4 * r)) 0 j.listing.rows row row (pos 0) in_row (omega arith))
 
   -- what is said of a place is said of a listed one, or of one behind these
-  by_place : {X : Type 0} (q : ℕ) (x y x' y' : X) → (q ≤ j.listing.filled → x ≡ x') → (j.listing.filled < q → y ≡ y') → cond (leb q j.listing.filled) x y ≡ cond (leb q (length (stated_by file j).listed)) x' y'
+  by_place : {X : Type 0} (q : ℕ) (x y x' y' : X) → (q ≤ listed_count → x ≡ x') → (listed_count < q → y ≡ y') → cond (leb q listed_count) x y ≡ cond (leb q (length (stated_by file j).listed)) x' y'
   by_place q x y x' y' f g =
-      elim (cases_lt j.listing.filled q) [
-        | inl past ↦ cond-false _ x y (lt-leb q j.listing.filled past) ∙ g past ∙ sym (cond-false _ x' y' (lt-leb q j.listing.filled past))
-        | inr to ↦ cond-true _ x y (le-leb q j.listing.filled to) ∙ f to ∙ sym (cond-true _ x' y' (le-leb q j.listing.filled to))
+      elim (cases_lt listed_count q) [
+        | inl past ↦ cond-false _ x y (lt-leb q listed_count past) ∙ g past ∙ sym (cond-false _ x' y' (lt-leb q listed_count past))
+        | inr to ↦ cond-true _ x y (le-leb q listed_count to) ∙ f to ∙ sym (cond-true _ x' y' (le-leb q listed_count to))
       ] ∙ ap (λ n. cond (leb q n) x' y') (sym listed)
 
-  versions_same : (q : ℕ) → 1 ≤ q → q ≤ j.listing.filled + j.ladder.filled → (job_meaning file j).versions q ≡ (stated_meaning (stated_by file j)).versions q
+  versions_same : (q : ℕ) → 1 ≤ q → q ≤ listed_count + ladder_count → (job_meaning file j).versions q ≡ (stated_meaning (stated_by file j)).versions q
   versions_same q from to =
-      let p = listed_at j.listing.places q in
-      by_place q p.count (place_at j.ladder.places (q - j.listing.filled)).count (length (held (stated_by file j) q)) (ladder_of (stated_by file j) q).count
+      let p = listed_at j.listing.places.items q in
+      by_place q p.count (place_at j.ladder.places.items (q - listed_count)).count (length (held (stated_by file j) q)) (ladder_of (stated_by file j) q).count
       (λ near. sym (ap length (held_at file j.listing q from near) ∙ length-map-range_with_len (λ k. amounts_at file j.listing.rows (behind j.listing.rows p k)) 0 p.count))
       (λ past. sym (ap (λ l. l.count) (ladder_there q past to)))
 
-  amounts_same : (row q v : ℕ) → row < suc (last_row j.sheet) → 1 ≤ q → q ≤ j.listing.filled + j.ladder.filled → 1 ≤ v → v ≤ (stated_meaning (stated_by file j)).versions q → (job_meaning file j).amount row q v ≡ (stated_meaning (stated_by file j)).amount row q v
+  amounts_same : (row q v : ℕ) → row < suc (last_row j.sheet) → 1 ≤ q → q ≤ listed_count + ladder_count → 1 ≤ v → v ≤ (stated_meaning (stated_by file j)).versions q → (job_meaning file j).amount row q v ≡ (stated_meaning (stated_by file j)).amount row q v
   amounts_same row q v in_row from to first last =
-      let p = listed_at j.listing.places q in
-      let g = place_at j.ladder.places (q - j.listing.filled) in
-      by_place q (number_at file (amount_start j.listing.rows p row v)) (rung (rung_at j.ladder.places row (q - j.listing.filled)).base (rung_at j.ladder.places row (q - j.listing.filled)).step v) (get_or (get_or (held (stated_by file j) q) (v - 1) []) row (pos 0)) (ladder_amount (ladder_of (stated_by file j) q) v row)
-      (λ near. amount_there_listed row q v (omega (arith, rows.listing)) from near first (omega (arith, last, versions_same q from to, cond-true (leb q j.listing.filled) p.count g.count (le-leb q j.listing.filled near))))
-      (λ past. rung_there g row v (omega (arith, rows.ladder)) ∙ sym (ap (λ l. ladder_amount l v row) (ladder_there q past to)))
+      let p = listed_at j.listing.places.items q in
+      let g = place_at j.ladder.places.items (q - listed_count) in
+      by_place q (number_at file (amount_start j.listing.rows p row v)) (rung (rung_at j.ladder.places.items row (q - listed_count)).base (rung_at j.ladder.places.items row (q - listed_count)).step v) (get_or (get_or (held (stated_by file j) q) (v - 1) []) row (pos 0)) (rung_amount (ladder_of (stated_by file j) q).rungs v row)
+      (λ near. amount_there_listed row q v (omega (arith, rows.listing)) from near first (omega (arith, last, versions_same q from to, cond-true (leb q listed_count) p.count g.count (le-leb q listed_count near))))
+      (λ past. rung_there g row v (omega (arith, rows.ladder)) ∙ sym (ap (λ l. rung_amount l.rungs v row) (ladder_there q past to)))
 
-  found : length (stated_by file j).listed + length (stated_by file j).ladders ≡ j.listing.filled + j.ladder.filled
+  found : length (stated_by file j).listed + length (stated_by file j).ladders ≡ listed_count + ladder_count
   found = ap₂ (λ a b. a + b) listed (length_ladders j.ladder)
 
   pub meaning_read : SameAnswers (job_meaning file j) (stated_meaning (stated_by file j))

@@ -1,8 +1,8 @@
 -- What a job in memory states, and what is promised of reading one. Assumes nothing.
-use Rattle.std.specs.Prelude.{◌≡◌, ℕ, suc, List, take, IfOk, Ok, Err, Result}
+use Rattle.std.specs.Prelude.{◌≡◌, ℕ, List, take, IfOk, Ok, Err, Result}
 use Rattle.rules.specs.declared.refusals.Fault.{Fault}
 use Rattle.rules.specs.Catalogues.{Meaning, SameAnswers}
-use Rattle.rules.specs.Sheets.{last_row}
+use Rattle.rules.specs.Sheets.{last_row, order_of}
 use Rattle.catalogue.specs.Beside.{besides}
 use Rattle.catalogue.specs.Ladder.{ladder_meaning}
 use Rattle.catalogue.specs.Listed.{listed_meaning}
@@ -22,7 +22,7 @@ stated_by file j =
       last_row = last_row j.sheet;
       cap = j.sheet.cap;
       rows = take (last_row j.sheet) j.sheet.rows;
-      order = take j.sheet.places j.sheet.order;
+      order = order_of j.sheet;
       listed = listed_of file j.listing;
       ladders = ladders_of j.ladder;
       calls = calls_of j.calls;
@@ -33,15 +33,10 @@ abbrev pub says : List ℕ → Result Job Fault → Result Stated Fault
 says file (Ok j) = Ok (stated_by file j)
 says file (Err f) = Err f
 
--- Both catalogues of a job in memory have the rows of its sheet.
-pub record SameRows (j : Job) : Type 0 where
-  pub listing : j.listing.rows ≡ suc (last_row j.sheet)
-  pub ladder : j.ladder.rows ≡ suc (last_row j.sheet)
-
 -- The meaning of the catalogue of a job in memory: the listing over the bytes of its file, beside the ladder.
 abbrev pub job_meaning : List ℕ → Job → Meaning
 job_meaning file j =
-    besides (listed_meaning file j.listing.rows j.listing.filled j.listing.places) (ladder_meaning j.ladder.rows j.ladder.filled j.ladder.places)
+    besides (listed_meaning file j.listing.rows j.listing.places.items) (ladder_meaning j.ladder.rows j.ladder.places.items)
 
 -- What is promised of reading a file.
 pub record RightlyRead (file : List ℕ) (answer : Result Job Fault) : Type 0 where

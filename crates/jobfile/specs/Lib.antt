@@ -3,9 +3,11 @@ pub mod Stated
 pub mod Writing
 pub mod Validity
 pub mod Reading
+pub mod Amounts
 pub mod CallTables
 pub mod Begun
 pub mod InMemory
+pub mod Sound
 pub mod Readers
 pub mod Refusing
 pub mod Opened

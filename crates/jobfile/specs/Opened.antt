@@ -1,9 +1,9 @@
 -- The sheet and the catalogue of a stated job. Assumes nothing.
-use Rattle.std.specs.Prelude.{ℕ, suc, ◌+◌, ◌-◌, cond, [], length, pos, nat_le, slice_index_or}
+use Rattle.std.specs.Prelude.{ℕ, suc, ◌+◌, ◌-◌, if◌then◌else◌, [], length, pos, nat_le, slice_index_or}
 use Rattle.rules.specs.declared.sheets.Sheet.{Sheet}
 use Rattle.rules.specs.Catalogues.{Meaning}
 use Rattle.jobfile.specs.Stated.{LadderStated, Stated}
-use Rattle.jobfile.specs.Reading.{held, ladder_amount}
+use Rattle.jobfile.specs.Reading.{held, rung_amount}
 
 -- The sheet of a stated job.
 abbrev pub stated_sheet : Stated → Sheet
@@ -23,6 +23,6 @@ stated_meaning j =
     record {
       places = length j.listed + length j.ladders;
       rows = suc j.last_row;
-      versions = λ q. cond (nat_le q (length j.listed)) (length (held j q)) (ladder_of j q).count;
-      amount = λ row q v. cond (nat_le q (length j.listed)) (slice_index_or (slice_index_or (held j q) (v - 1) []) row (pos 0)) (ladder_amount (ladder_of j q) v row);
+      versions = λ q. if nat_le q (length j.listed) then length (held j q) else (ladder_of j q).count;
+      amount = λ row q v. if nat_le q (length j.listed) then slice_index_or (slice_index_or (held j q) (v - 1) []) row (pos 0) else rung_amount (ladder_of j q).rungs v row;
     }

@@ -1,5 +1,5 @@
 -- How a file is read: the tests of each field in their order, and what a field adds. Assumes nothing.
-use Rattle.std.specs.Prelude.{ℕ, zero, suc, ◌+◌, ◌-◌, ◌*◌, Bool, true, false, cond, ◌&&◌, List, [], ◌∷◌, ◌++◌, length, get_or, take, drop, ℤ, pos, is_some, Some, None, Ok, Err, Option, Result, ◌==◌, nat_le, nat_lt, slice_index, slice_index_or, unsigned_abs}
+use Rattle.std.specs.Prelude.{ℕ, zero, suc, ◌+◌, ◌-◌, ◌*◌, Bool, true, false, if◌then◌else◌, ◌&&◌, List, [], ◌∷◌, ◌++◌, length, take, drop, ℤ, pos, is_some, Some, None, Ok, Err, Option, Result, ◌==◌, nat_le, nat_lt, slice_index, slice_index_or, unsigned_abs}
 use Rattle.rules.specs.declared.records.Request.{Request}
 use Rattle.rules.specs.declared.refusals.Fault.{Fault}
 use Rattle.rules.specs.declared.refusals.Refusal.{Refusal}
@@ -16,7 +16,7 @@ use Rattle.jobfile.specs.declared.fields.Field.TheVariants as field
 use Rattle.jobfile.specs.declared.fields.Section.{Section}
 use Rattle.jobfile.specs.declared.fields.Section.TheVariants as section
 use Rattle.jobfile.specs.Bounds.{most_bytes, most_calls}
-use Rattle.jobfile.specs.Stated.{RungStated, LadderStated, PlaceStated, Stated}
+use Rattle.jobfile.specs.Stated.{RungStated, PlaceStated, Stated}
 use Rattle.jobfile.specs.Writing.{Entry, sheet, row, order, version, ladder, call}
 
 -- How far a file is read: its section, and the job as far as it is stated.
@@ -55,15 +55,16 @@ next f c = Some (record { field = f; section = c })
 
 -- What a tag announces in a section, with so many rows read of those up to the last; none where the tag isn't allowed.
 abbrev pub announced_with : ℕ → ℕ → Section → ℕ → Option Announced
-announced_with rows m section.Start tag = cond (tag == 1) (next field.Sheet section.Rows) None
+announced_with rows m section.Start tag = if tag == 1 then next field.Sheet section.Rows else None
 announced_with rows m section.Rows tag =
-    cond (tag == 2 && nat_lt rows m) (next field.Row section.Rows) (cond (tag == 3 && rows == m) (next field.Order section.Versions) None)
+    if tag == 2 && nat_lt rows m then next field.Row section.Rows
+    else (if tag == 3 && rows == m then next field.Order section.Versions else None)
 announced_with rows m section.Versions tag =
-    cond (tag == 4) (next field.Version section.Versions)
-    (cond (tag == 5) (next field.Ladder section.Ladders) (cond (tag == 6) (next field.Call section.Calls) None))
+    if tag == 4 then next field.Version section.Versions
+    else (if tag == 5 then next field.Ladder section.Ladders else (if tag == 6 then next field.Call section.Calls else None))
 announced_with rows m section.Ladders tag =
-    cond (tag == 5) (next field.Ladder section.Ladders) (cond (tag == 6) (next field.Call section.Calls) None)
-announced_with rows m section.Calls tag = cond (tag == 6) (next field.Call section.Calls) None
+    if tag == 5 then next field.Ladder section.Ladders else (if tag == 6 then next field.Call section.Calls else None)
+announced_with rows m section.Calls tag = if tag == 6 then next field.Call section.Calls else None
 
 -- What a tag announces in a section, after the front of a job.
 abbrev pub announced : Stated → Section → ℕ → Option Announced
@@ -103,17 +104,9 @@ amount_good z = nat_le (unsigned_abs z) greatest_amount
 abbrev pub amount_fault : ℕ → ℕ → ℕ → ℕ → Fault
 amount_fault at q v r = fault_in AmountBeyond at q v r
 
--- The test of one amount.
-abbrev pub amount_test : ℤ → Fault → List (Option Fault)
-amount_test z bad = test (amount_good z) bad ∷ []
-
 -- The tests of each row's amount, from row 0 to the last one m; amounts are given by row.
 abbrev pub row_amount_tests : ℕ → (ℕ → ℤ) → (ℕ → Fault) → List (Option Fault)
 row_amount_tests m amount bad = each_to (λ k. test (amount_good (amount (k - 1))) (bad (k - 1)) ∷ []) (suc m)
-
--- The same for the rows of a job.
-abbrev pub amount_tests : Stated → (ℕ → ℤ) → (ℕ → Fault) → List (Option Fault)
-amount_tests j amount bad = row_amount_tests j.last_row amount bad
 
 -- The rung of a row that a ladder does not have.
 abbrev pub no_rung : RungStated
@@ -121,11 +114,7 @@ no_rung = record { base = pos 0; step = pos 0 }
 
 -- The amount of a row in a version of a ladder, by its rungs.
 abbrev pub rung_amount : List RungStated → ℕ → ℕ → ℤ
-rung_amount gs v r = rung (get_or gs r no_rung).base (get_or gs r no_rung).step v
-
--- The amount of a row in a version of a ladder.
-abbrev pub ladder_amount : LadderStated → ℕ → ℕ → ℤ
-ladder_amount l v r = rung (get_or l.rungs r no_rung).base (get_or l.rungs r no_rung).step v
+rung_amount gs v r = rung (slice_index_or gs r no_rung).base (slice_index_or gs r no_rung).step v
 
 -- The tests of a sheet: its counts, and its cap.
 abbrev pub sheet_tests : ℕ → ℕ → ℤ → ℕ → List (Option Fault)
@@ -164,8 +153,8 @@ abbrev pub content_tests : Stated → Entry → ℕ → List (Option Fault)
 content_tests j (sheet n m cap) at = sheet_tests n m cap at
 content_tests j (row r) at = row_tests r.kind r.limit at
 content_tests j (order ps) at = order_tests j.places ps at
-content_tests j (version q zs) at = version_tests j.places j.last_row (length j.listed) (length (held j q)) q (λ r. get_or zs r (pos 0)) at
-content_tests j (ladder q l) at = ladder_tests j.places j.last_row (length j.listed + length j.ladders) q l.count (ladder_amount l) at
+content_tests j (version q zs) at = version_tests j.places j.last_row (length j.listed) (length (held j q)) q (λ r. slice_index_or zs r (pos 0)) at
+content_tests j (ladder q l) at = ladder_tests j.places j.last_row (length j.listed + length j.ladders) q l.count (rung_amount l.rungs) at
 content_tests j (call r) at = call_tests (length j.calls) r at
 
 -- The job with what a field adds; a sheet and an order have nothing after them yet.
@@ -197,9 +186,9 @@ after_tests (Some f) x = Err f
 after_tests None x = Ok x
 
 -- What follows a step that may be refused.
-abbrev pub then : {X Y : Type 0} → Result X Fault → (X → Result Y Fault) → Result Y Fault
-then (Ok x) f = f x
-then (Err e) f = Err e
+abbrev pub and_then : {X Y : Type 0} → Result X Fault → (X → Result Y Fault) → Result Y Fault
+and_then (Ok x) f = f x
+and_then (Err e) f = Err e
 
 -- A fault of the file that says only where it was met.
 abbrev pub refuse : {X : Type 0} → Refusal → ℕ → Result X Fault
@@ -213,12 +202,9 @@ pub record FieldRead : Type 0 where
 -- The rest of a field, once its tag is known: its length, its body, and what it says.
 abbrev pub read_rest : Stated → Announced → ℕ → List ℕ → ℕ → Result FieldRead Fault
 read_rest j p len tail at =
-    cond (len == field_length j p.field)
-    (cond (nat_le len (length tail))
-    (let e = decode j p.field (take len tail) in
-    after_tests (first_fault (content_tests j e at)) (record { size = 3 + len; reading = record { section = p.section; job = with_entry j e } }))
-    (refuse FieldCut at))
-    (refuse WrongLength at)
+    let e = decode j p.field (take len tail) in
+    let said = after_tests (first_fault (content_tests j e at)) (record { size = 3 + len; reading = record { section = p.section; job = with_entry j e } }) in
+    if len == field_length j p.field then (if nat_le len (length tail) then said else refuse FieldCut at) else refuse WrongLength at
 
 -- A tag that isn't allowed, or the rest of its field.
 abbrev pub read_announced : Stated → Option Announced → ℕ → List ℕ → ℕ → Result FieldRead Fault
@@ -228,15 +214,15 @@ read_announced j (Some p) len tail at = read_rest j p len tail at
 -- The field that begins at a byte.
 abbrev pub read_field : Reading → List ℕ → ℕ → Result FieldRead Fault
 read_field s bs at =
-    cond (nat_le 3 (length bs))
-    (read_announced s.job (announced s.job s.section (slice_index bs 0)) (slice_index bs 1 * 256 + slice_index bs 2) (drop 3 bs) at)
-    (refuse FieldCut at)
+    if nat_le 3 (length bs)
+    then read_announced s.job (announced s.job s.section (slice_index bs 0)) (slice_index bs 1 * 256 + slice_index bs 2) (drop 3 bs) at
+    else refuse FieldCut at
 
 -- The fields from a byte on, of which there are no more than a number.
 abbrev pub read_fields : ℕ → Reading → List ℕ → ℕ → Result Reading Fault
 read_fields zero s bs at = Ok s
 read_fields (suc most) s bs at =
-    cond (length bs == 0) (Ok s) (then (read_field s bs at) (λ p. read_fields most p.reading (drop p.size bs) (at + p.size)))
+    if length bs == 0 then Ok s else and_then (read_field s bs at) (λ p. read_fields most p.reading (drop p.size bs) (at + p.size))
 
 -- The order field hasn't come yet.
 abbrev pub early : Section → Bool
@@ -250,10 +236,10 @@ early section.Calls = false
 abbrev pub finish : Reading → ℕ → Result Stated Fault
 finish s at =
     let found = length s.job.listed + length s.job.ladders in
-    cond (early s.section) (refuse TagNotAllowed at)
-    (cond (found == s.job.places) (Ok s.job) (Err (fault_in CountsDiffer 0 found 0 (suc s.job.last_row))))
+    if early s.section then refuse TagNotAllowed at
+    else (if found == s.job.places then Ok s.job else Err (fault_in CountsDiffer 0 found 0 (suc s.job.last_row)))
 
 -- What a file says, or the first fault in it.
 unfoldable pub read : List ℕ → Result Stated Fault
 read bs =
-    cond (nat_le (length bs) most_bytes) (then (read_fields (length bs) fresh bs 0) (λ s. finish s (length bs))) (refuse FileTooLong most_bytes)
+    if nat_le (length bs) most_bytes then and_then (read_fields (length bs) fresh bs 0) (λ s. finish s (length bs)) else refuse FileTooLong most_bytes

@@ -1,17 +1,43 @@
 // The calls of a job, in the order in which they come.
-ghost use Rattle.std.specs.Prelude.{◌≡◌, ◌≤◌, length};
+ghost use Rattle.std.specs.Prelude.{◌≡◌, [], ◌∷◌, ◌++◌, ◌≤◌, MatchResult};
+ghost use Rattle.arrayvec.specs.ArrayVec.{array_vec_len};
 ghost use Rattle.jobfile.specs.Bounds.{most_calls};
 
 use crate::bounds::MOST_CALLS;
-use rules::Request;
+use arrayvec::ArrayVec;
+use rules::{Refusal, Request};
 
-// A table of requests, of which so many are in use.
+// The requests, of which there can be so many.
 #[derive(Drop)]
 pub struct Calls {
-    requests: [Request; MOST_CALLS],
-    count: usize,
-    ghost few: { count ≤ most_calls },
-    ghost long: { length requests ≡ most_calls },
+    requests: ArrayVec<Request, MOST_CALLS>,
+    ghost few: { array_vec_len requests ≤ most_calls },
 }
 
-mod table;
+impl Calls {
+    ghost use Rattle.jobfile.specs.CallTables.{calls_of, room_for_call};
+
+    // No call yet.
+    pub fn none() -> Calls
+        ensures { calls_of result ≡ [] }
+    {
+        Calls {
+            requests: ArrayVec::new(),
+        }
+    }
+
+    // The calls.
+    pub fn list(&self) -> &[Request]
+        ensures { result.now ≡ calls_of self.now }
+    {
+        self.requests.as_slice()
+    }
+
+    // One call more behind the others; nothing is altered where there is no space.
+    pub fn push(&mut self, request: Request) -> Result<(), Refusal>
+        ensures told { result ≡ room_for_call (calls_of self.old) }
+        ensures calls { MatchResult result (λ _. calls_of self.new ≡ calls_of self.old ++ request ∷ []) (λ _. calls_of self.new ≡ calls_of self.old) }
+    {
+        self.requests.try_push(request).map_err(|_| Refusal::NoCall)
+    }
+}

@@ -1,6 +1,7 @@
 // Job files, from bytes to jobs.
 ghost use Rattle.std.specs.Prelude.{◌≡◌, IfOk};
-ghost use Rattle.jobfile.specs.Jobs.{RightlyRead, SameRows, says};
+ghost use Rattle.jobfile.specs.Jobs.{RightlyRead, says};
+ghost use Rattle.jobfile.specs.Sound.{SameRows};
 ghost use Rattle.jobfile.specs.Reading.{read as what_is_read};
 
 use crate::bounds::MOST_BYTES;

@@ -1,4 +1,7 @@
 // A reader of job files: how far it has come.
+ghost use Rattle.std.specs.Prelude.{◌≤◌, length};
+ghost use Rattle.jobfile.specs.Sound.{HoldsIn, Sound};
+
 use crate::fields::Section;
 use crate::job::Job;
 
@@ -8,10 +11,12 @@ pub(crate) struct Reader<'a> {
     file: &'a [u8],
     at: u16,
     section: Section,
-    // So many rows are read, and so many places of the order.
+    // So many rows are read.
     rows: u8,
-    ordered: u8,
     job: Job,
+    ghost within: { at ≤ length file.now },
+    ghost sound: { Sound file.now rows job },
+    ghost holds: { HoldsIn section at rows job },
 }
 
 mod fields;

@@ -8,26 +8,23 @@ use crate::job::Job;
 use catalogue::{Ladder, Listing};
 use rules::{GREATEST_ROW, MOST_PLACES, Row, Sheet};
 
-// What stands where no row is read yet.
-const NO_ROW: Row = Row { kind: 0, limit: 0 };
-
 impl Job {
     // No row, no order, no place and no call yet; the fields of a file end at a byte.
     pub(crate) fn begun(end: usize, places: u8, last_row: u8, cap: i32) -> Job
         requires { last_row ≤ greatest_row }
         ensures { Begun end places last_row «cap» result }
     {
-        let Some(listing) = Listing::new(end, last_row + 1) else {
+        let Ok(listing) = Listing::new(end, last_row + 1) else {
             unreachable()
         };
-        let Some(ladder) = Ladder::new(last_row + 1) else {
+        let Ok(ladder) = Ladder::new(last_row + 1) else {
             unreachable()
         };
         let sheet = Sheet {
             places,
             last_row,
             cap,
-            rows: [NO_ROW; GREATEST_ROW],
+            rows: [Row::default(); GREATEST_ROW],
             order: [0; MOST_PLACES],
         };
         Job {

@@ -1,10 +1,8 @@
 // A whole file.
 ghost use Rattle.std.specs.Prelude.{◌≡◌, ◌≤◌, length, drop, IfOk, OnOk};
-ghost use Rattle.jobfile.specs.declared.fields.Section.TheVariants as section;
 ghost use Rattle.jobfile.specs.Bounds.{most_bytes};
-ghost use Rattle.jobfile.specs.Jobs.{SameRows, says};
+ghost use Rattle.jobfile.specs.Sound.{SameRows};
 ghost use Rattle.jobfile.specs.Reading.{finish, fresh, read_fields};
-ghost use Rattle.jobfile.specs.Readers.{AtEnd, SoundIn, front_of, told};
 
 use crate::checks::fault_at;
 use crate::fields::Section;
@@ -14,30 +12,31 @@ use catalogue::Catalogue;
 use rules::{Fault, Refusal};
 
 impl<'a> Reader<'a> {
+    ghost use Rattle.jobfile.specs.Readers.{front_of};
+
     // A reader at the front of a file.
     pub(crate) fn new(file: &'a [u8]) -> Reader<'a>
         requires { length file.now ≤ most_bytes }
         ensures file { result.file.now ≡ file.now }
         ensures at { result.at ≡ 0 }
         ensures front { front_of result ≡ fresh }
-        ensures sound { SoundIn result.section result.at result }
     {
         Reader {
             file,
             at: 0,
             section: Section::Start,
             rows: 0,
-            ordered: 0,
             job: Job::begun(file.len(), 0, 0, 0),
         }
     }
 }
 
 impl Reader<'_> {
+    ghost use Rattle.jobfile.specs.Jobs.{says};
+    ghost use Rattle.jobfile.specs.Readers.{AtEnd, front_of, told};
+
     // Every field from where the reader is.
     pub(crate) fn read_fields(&mut self) -> Result<(), Fault>
-        requires sound { SoundIn self.old.section self.old.at self.old }
-        requires within { self.old.at ≤ length self.old.file.now }
         ensures fields { told result (front_of self.new) ≡ read_fields (length self.old.file.now) (front_of self.old) (drop self.old.at self.old.file.now) self.old.at }
         ensures end { OnOk result (AtEnd self.old.file.now self.new) }
     {
@@ -49,7 +48,6 @@ impl Reader<'_> {
 
     // At the end of the file: the order has come, and each place has its versions.
     pub(crate) fn finish(self) -> Result<Job, Fault>
-        requires { SoundIn self.section self.at self }
         ensures job { says self.entry.file.now result ≡ finish (front_of self.entry) self.entry.at }
         ensures rows { IfOk result SameRows }
     {
@@ -58,10 +56,11 @@ impl Reader<'_> {
         }
         let found = self.job.listing.places() + self.job.ladder.places();
         if found != self.job.sheet.places {
-            let mut fault = fault_at(Refusal::CountsDiffer, 0);
-            fault.place = found;
-            fault.row = self.job.sheet.last_row + 1;
-            return Err(fault);
+            return Err(Fault {
+                place: found,
+                row: self.job.sheet.last_row + 1,
+                ..fault_at(Refusal::CountsDiffer, 0)
+            });
         }
         Ok(self.job)
     }

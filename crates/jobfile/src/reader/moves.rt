@@ -1,10 +1,8 @@
 // The section that follows, and the length of a field.
-ghost use Rattle.std.specs.Prelude.{◌≡◌, ◌≤◌, IfOk, Some, None, Ok, Err};
-ghost use Rattle.rules.specs.Bounds.{greatest_row};
+ghost use Rattle.std.specs.Prelude.{◌≡◌, IfOk, MatchResult, Some, None};
 ghost use Rattle.rules.specs.Refusals.{fault_in};
 ghost use Rattle.rules.specs.declared.refusals.Refusal.TheVariants.{TagNotAllowed};
 ghost use Rattle.jobfile.specs.Reading.{announced_with, field_length};
-ghost use Rattle.jobfile.specs.Readers.{front_job, SoundIn, Due};
 
 use crate::checks::fault_at;
 use crate::fields::{Field, Section};
@@ -12,12 +10,13 @@ use crate::reader::Reader;
 use rules::{Fault, Refusal};
 
 impl Reader<'_> {
+    ghost use Rattle.jobfile.specs.Readers.{InTurn, SameButSection, front_job};
+
     // The field that a tag announces, the section after it being entered; or the tag isn't allowed here.
     pub(crate) fn advance(&mut self, tag: u8) -> Result<Field, Fault>
-        requires { SoundIn self.old.section self.old.at self.old }
-        ensures field { elim result [ Ok f ↦ announced_with self.old.rows self.old.job.sheet.last_row self.old.section tag ≡ Some (record { field = f; section = self.new.section }) | Err e ↦ (announced_with self.old.rows self.old.job.sheet.last_row self.old.section tag ≡ None) × (e ≡ fault_in TagNotAllowed self.old.at 0 0 0) ] }
-        ensures kept { self.new ≡ record { file = self.old.file; at = self.old.at; section = self.new.section; rows = self.old.rows; ordered = self.old.ordered; job = self.old.job } }
-        ensures due { IfOk result (Due self.new) }
+        ensures field { MatchResult result (λ f. announced_with self.old.rows self.old.job.sheet.last_row self.old.section tag ≡ Some (record { field = f; section = self.new.section })) (λ e. (announced_with self.old.rows self.old.job.sheet.last_row self.old.section tag ≡ None) × (e ≡ fault_in TagNotAllowed self.old.at 0 0 0)) }
+        ensures kept { SameButSection self.old self.new }
+        ensures turn { IfOk result (InTurn self.new) }
     {
         Ok(match (self.section, tag) {
             (Section::Start, 1) => {
@@ -44,7 +43,6 @@ impl Reader<'_> {
 
     // The length of a field's body.
     pub(crate) fn length_of(&self, field: Field) -> u16
-        requires { self.now.job.sheet.last_row ≤ greatest_row }
         ensures { result ≡ field_length (front_job self.now) field }
     {
         match field {

@@ -1,7 +1,6 @@
 // One field after the other.
 ghost use Rattle.std.specs.Prelude.{◌≡◌, ◌+◌, ◌≤◌, length, drop, OnOk};
-ghost use Rattle.jobfile.specs.Reading.{field_length, read_rest, read_field};
-ghost use Rattle.jobfile.specs.Readers.{Due, BodyAt, BodyRead, MovedOn, SoundIn, field_between, front_job, front_of, told};
+ghost use Rattle.jobfile.specs.Reading.{read_rest, read_field};
 
 use crate::checks::fault_at;
 use crate::fields::Field;
@@ -9,11 +8,11 @@ use crate::reader::Reader;
 use rules::{Fault, Refusal};
 
 impl Reader<'_> {
+    ghost use Rattle.jobfile.specs.Readers.{BodyRead, Due, InTurn, MovedOn, field_between, front_job, front_of, told};
+
     // The body of a field that is due.
     fn read_body(&mut self, field: Field, body: &[u8]) -> Result<(), Fault>
-        requires due { Due self.old field }
-        requires length { length body.now ≡ field_length (front_job self.old) field }
-        requires body { BodyAt self.old body.now }
+        requires { Due self.old field body.now }
         ensures { BodyRead self.old field body.now result self.new }
     {
         match field {
@@ -26,9 +25,9 @@ impl Reader<'_> {
         }
     }
 
-    // The rest of a field that is due, once its length is known.
+    // The rest of a field that comes next, once its length is known.
     fn read_rest(&mut self, field: Field, size: u16, tail: &[u8]) -> Result<(), Fault>
-        requires due { Due self.old field }
+        requires turn { InTurn self.old field }
         requires tail { tail.now ≡ drop (self.old.at + 3) self.old.file.now }
         requires there { self.old.at + 3 ≤ length self.old.file.now }
         ensures field { told result (field_between self.old self.new) ≡ read_rest (front_job self.old) (record { field = field; section = self.old.section }) size tail.now self.old.at }
@@ -37,18 +36,14 @@ impl Reader<'_> {
         if size != self.length_of(field) {
             return Err(fault_at(Refusal::WrongLength, self.at));
         }
-        if tail.len() < usize::from(size) {
+        let Some(body) = tail.get(..usize::from(size)) else {
             return Err(fault_at(Refusal::FieldCut, self.at));
-        }
-        self.read_body(field, &tail[0..usize::from(size)])?;
-        self.at += 3 + size;
-        Ok(())
+        };
+        self.read_body(field, body)
     }
 
     // The field where the reader is.
     pub(crate) fn read_field(&mut self) -> Result<(), Fault>
-        requires sound { SoundIn self.old.section self.old.at self.old }
-        requires within { self.old.at ≤ length self.old.file.now }
         ensures field { told result (field_between self.old self.new) ≡ read_field (front_of self.old) (drop self.old.at self.old.file.now) self.old.at }
         ensures moved { OnOk result (MovedOn self.old.file.now self.old.at self.new) }
     {
@@ -57,6 +52,6 @@ impl Reader<'_> {
             return Err(fault_at(Refusal::FieldCut, self.at));
         };
         let field = self.advance(*tag)?;
-        self.read_rest(field, u16::from(*hi) * 256 + u16::from(*lo), tail)
+        self.read_rest(field, u16::from_be_bytes([*hi, *lo]), tail)
     }
 }

@@ -1,24 +1,28 @@
-use Rattle.std.proofs.Common.{ap, ◌∙◌, arith}
+use Rattle.std.proofs.Common.{◌+◌, arith}
 use borrow.Author.Differences.{ints}
-use Rattle.jobfile.specs.Reading.{amount_in, amount_fault}
-use Rattle.jobfile.proofs.Codec.{amount_at}
+use Rattle.jobfile.specs.Reading.{amount_fault}
 use Rattle.jobfile.proofs.TestLoops.{rows_more, rows_fail, rows_passed}
 use Rattle.jobfile.proofs.checks.check_amounts.Goals as goal
+use Rattle.jobfile.proofs.checks.check_amounts.Goals.{else-loop-row-test, then-loop-row-test+else-unsigned_abs-gt-GREATEST_AMOUNT+else-row-last_row}
 
-pub returns-then-from-gt-GREATEST_AMOUNT : goal.returns-then-from-gt-GREATEST_AMOUNT
-returns-then-from-gt-GREATEST_AMOUNT c =
-    let a = amount_in c.args.m c.args.body.now in
-    rows_fail a (amount_fault c.args.at c.args.place c.args.version) c.args.m c.loop-row.row c.number_at-amount.result c.amount_fault.result
-    (c.number_at-amount.ensures ∙ amount_at c.args.m c.from.result c.args.body.now (omega arith) ∙ ap a c.from.ensures)
-    (omega arith) c.loop-row.invariant (omega (arith, ints)) c.amount_fault.ensures
+pub returns-then-unsigned_abs-gt-GREATEST_AMOUNT : goal.returns-then-unsigned_abs-gt-GREATEST_AMOUNT
+returns-then-unsigned_abs-gt-GREATEST_AMOUNT g c = λ amounts gives.
+    let s = c.args.spot in
+    rows_fail amounts (amount_fault s.byte s.place s.version) c.args.last_row c.loop-row.row c.amount.result c.beyond.result (gives c.loop-row.row c.amount.result (omega arith) c.amount.ensures) (omega arith) (c.loop-row.invariant amounts gives) (omega (arith, ints)) c.beyond.ensures
 
 pub loop-row-preserved : goal.loop-row-preserved
-loop-row-preserved c =
-    let a = amount_in c.args.m c.args.body.now in
-    rows_more a (amount_fault c.args.at c.args.place c.args.version) c.loop-row.row c.number_at-amount.result
-    (c.number_at-amount.ensures ∙ amount_at c.args.m c.from.result c.args.body.now (omega arith) ∙ ap a c.from.ensures)
-    c.loop-row.invariant (omega (arith, ints))
+loop-row-preserved g c = λ amounts gives.
+    let s = c.args.spot in
+    rows_more amounts (amount_fault s.byte s.place s.version) c.loop-row.row c.amount.result (gives c.loop-row.row c.amount.result (omega arith) c.amount.ensures) (c.loop-row.invariant amounts gives) (omega (arith, ints))
 
 pub returns : goal.returns
-returns c =
-    rows_passed (amount_in c.args.m c.args.body.now) (amount_fault c.args.at c.args.place c.args.version) c.args.m c.loop-row.row (omega arith) c.loop-row.invariant
+returns g c = λ amounts gives.
+    let s = c.args.spot in
+    let bad = amount_fault s.byte s.place s.version in
+    let row = c.loop-row.row in
+    elim c.loop-row-test.branch [
+      | else-loop-row-test w ↦ absurd (omega arith)
+      | then-loop-row-test+else-unsigned_abs-gt-GREATEST_AMOUNT+else-row-last_row w ↦
+          let last = rows_more amounts bad row w.amount.result (gives row w.amount.result (omega arith) w.amount.ensures) (c.loop-row.invariant amounts gives) (omega (arith, ints)) in
+          rows_passed amounts bad c.args.last_row (row + 1) (omega arith) last
+    ]

@@ -16,18 +16,16 @@ loop-self-preserved c =
     (did.field ∙ ap (λ xs. read_field (front_of r) (drop r.at xs) r.at) s.same)
     (subst (λ xs. MovedOn xs r.at c.read_field.new.self) s.same did.moved)
 
-pub returns-in_err-read_field : goal.returns-in_err-read_field
-returns-in_err-read_field c =
+pub returns-in_err-read_field-clause-fields : goal.returns-in_err-read_field-clause-fields
+returns-in_err-read_field-clause-fields c =
     let s = c.loop-self.invariant in
     let r = c.loop-self.self in
     let p = err_from_is_err_and c.from_residual.result c.from_residual.ensures.1 in
     let file = c.args.self.now.file.now in
     let before : r.at < length file = omega (arith, ap length s.same) in
-    let e = field_fails file _ r before c.in_err-read_field.field-0.0 c.read_field.new.self s (c.in_err-read_field.ensures.field ∙ ap (λ xs. read_field (front_of r) (drop r.at xs) r.at) s.same) in
-    rw (p.1, p.2) (record { fields = e; end = tt })
+    rw (p.1, p.2) (field_fails file _ r before c.in_err-read_field.field-0.0 c.read_field.new.self s (c.in_err-read_field.ensures.field ∙ ap (λ xs. read_field (front_of r) (drop r.at xs) r.at) s.same))
 
-pub returns : goal.returns
-returns c =
+pub returns-clause-fields : goal.returns-clause-fields
+returns-clause-fields c =
     let s = c.loop-self.invariant in
-    let e = fields_end c.args.self.now.file.now _ c.loop-self.self (omega (arith, ap length s.same)) s in
-    record { fields = e.0; end = e.1 }
+    fields_end c.args.self.now.file.now _ c.loop-self.self (omega (arith, ap length s.same)) s
