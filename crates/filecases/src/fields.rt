@@ -14,8 +14,7 @@ pub(crate) fn cut(rt: &HostRuntime) -> anyhow::Result<()> {
     draft.version(1, &[5])?;
     show(rt, "neither", &draft)?;
     draft.raw(&[6, 0])?;
-    show(rt, "a later head cut", &draft)?;
-    Ok(())
+    show(rt, "a later head cut", &draft)
 }
 
 // A file that goes wrong at its last field.
@@ -23,10 +22,9 @@ fn then_field(rt: &HostRuntime, name: &str, tag: u8, length: u16) -> anyhow::Res
     let mut draft = Draft::front(rt.alloc(), &[1, 2], 1)?;
     draft.version(1, &[90, -20])?;
     draft.ladder(2, 1, &[75, -35, 180, -80])?;
-    draft.head(tag, length)?;
+    draft.head(tag, usize::from(length))?;
     draft.fill(0, length)?;
-    show(rt, name, &draft)?;
-    Ok(())
+    show(rt, name, &draft)
 }
 
 pub(crate) fn tags(rt: &HostRuntime) -> anyhow::Result<()> {
@@ -48,8 +46,7 @@ pub(crate) fn tags(rt: &HostRuntime) -> anyhow::Result<()> {
     let mut late = Draft::new(rt.alloc());
     late.sheet(1, 0, 0)?;
     late.row(1, 0)?;
-    show(rt, "a row too many", &late)?;
-    Ok(())
+    show(rt, "a row too many", &late)
 }
 
 // Files that end before their order.
@@ -59,8 +56,7 @@ pub(crate) fn early_ends(rt: &HostRuntime) -> anyhow::Result<()> {
     draft.sheet(1, 1, 0)?;
     show(rt, "only a sheet", &draft)?;
     draft.row(1, 0)?;
-    show(rt, "no order", &draft)?;
-    Ok(())
+    show(rt, "no order", &draft)
 }
 
 pub(crate) fn lengths(rt: &HostRuntime) -> anyhow::Result<()> {
@@ -88,8 +84,7 @@ fn then_call(rt: &HostRuntime, name: &str, code: u8, row: u8, number: i32) -> an
     let mut draft = Draft::front(rt.alloc(), &[1], 0)?;
     draft.version(1, &[5])?;
     draft.call(code, row, number)?;
-    show(rt, name, &draft)?;
-    Ok(())
+    show(rt, name, &draft)
 }
 
 pub(crate) fn calls(rt: &HostRuntime) -> anyhow::Result<()> {
@@ -106,8 +101,7 @@ pub(crate) fn calls(rt: &HostRuntime) -> anyhow::Result<()> {
     let mut draft = Draft::front(rt.alloc(), &[1], 0)?;
     draft.version(1, &[5])?;
     draft.searches(257)?;
-    show(rt, "257 calls", &draft)?;
-    Ok(())
+    show(rt, "257 calls", &draft)
 }
 
 // A file that is only a sheet.
@@ -120,8 +114,7 @@ fn only_sheet(
 ) -> anyhow::Result<()> {
     let mut draft = Draft::new(rt.alloc());
     draft.sheet(places, last_row, cap)?;
-    show(rt, name, &draft)?;
-    Ok(())
+    show(rt, name, &draft)
 }
 
 // Sheets alone: a good one is refused at the file's end.
@@ -144,8 +137,7 @@ fn only_row(rt: &HostRuntime, name: &str, kind: u8, limit: i32) -> anyhow::Resul
     let mut draft = Draft::new(rt.alloc());
     draft.sheet(1, 1, 0)?;
     draft.row(kind, limit)?;
-    show(rt, name, &draft)?;
-    Ok(())
+    show(rt, name, &draft)
 }
 
 // Rows alone: a good one is refused at the file's end.
@@ -168,8 +160,7 @@ pub(crate) fn limits(rt: &HostRuntime) -> anyhow::Result<()> {
 // A file that ends with its order: a good one is refused for its missing places.
 fn only_order(rt: &HostRuntime, name: &str, order: &[u8]) -> anyhow::Result<()> {
     let draft = Draft::front(rt.alloc(), order, 0)?;
-    show(rt, name, &draft)?;
-    Ok(())
+    show(rt, name, &draft)
 }
 
 pub(crate) fn orders(rt: &HostRuntime) -> anyhow::Result<()> {

@@ -8,8 +8,7 @@ fn in_turn(rt: &HostRuntime, name: &str, places: &[u8]) -> anyhow::Result<()> {
     for place in places {
         draft.version(*place, &[5])?;
     }
-    show(rt, name, &draft)?;
-    Ok(())
+    show(rt, name, &draft)
 }
 
 pub(crate) fn turns(rt: &HostRuntime) -> anyhow::Result<()> {
@@ -28,8 +27,7 @@ fn then_ladders(rt: &HostRuntime, name: &str, places: &[u8]) -> anyhow::Result<(
     for place in places {
         draft.ladder(*place, 1, &[5, 0])?;
     }
-    show(rt, name, &draft)?;
-    Ok(())
+    show(rt, name, &draft)
 }
 
 pub(crate) fn ladder_turns(rt: &HostRuntime) -> anyhow::Result<()> {
@@ -44,8 +42,7 @@ pub(crate) fn ladder_turns(rt: &HostRuntime) -> anyhow::Result<()> {
 fn counted(rt: &HostRuntime, name: &str, count: u8) -> anyhow::Result<()> {
     let mut draft = Draft::front(rt.alloc(), &[1], 0)?;
     draft.ladder(1, count, &[5, 0])?;
-    show(rt, name, &draft)?;
-    Ok(())
+    show(rt, name, &draft)
 }
 
 pub(crate) fn versions(rt: &HostRuntime) -> anyhow::Result<()> {
@@ -68,8 +65,7 @@ pub(crate) fn missing(rt: &HostRuntime) -> anyhow::Result<()> {
     draft.ladder(2, 1, &[1, 0, 2, 0, 3, 0])?;
     show(rt, "two places of 3", &draft)?;
     draft.ladder(3, 1, &[1, 0, 2, 0, 3, 0])?;
-    show(rt, "three places of 3", &draft)?;
-    Ok(())
+    show(rt, "three places of 3", &draft)
 }
 
 // A second version with these amounts.
@@ -77,8 +73,7 @@ fn with_amounts(rt: &HostRuntime, name: &str, amounts: &[i32]) -> anyhow::Result
     let mut draft = Draft::front(rt.alloc(), &[1], 2)?;
     draft.version(1, &[1, 2, 3])?;
     draft.version(1, amounts)?;
-    show(rt, name, &draft)?;
-    Ok(())
+    show(rt, name, &draft)
 }
 
 pub(crate) fn amounts(rt: &HostRuntime) -> anyhow::Result<()> {
@@ -98,8 +93,7 @@ fn with_rungs(rt: &HostRuntime, name: &str, rungs: &[i32]) -> anyhow::Result<()>
     let mut draft = Draft::front(rt.alloc(), &[1, 2], 1)?;
     draft.version(1, &[1, 2])?;
     draft.ladder(2, 4, rungs)?;
-    show(rt, name, &draft)?;
-    Ok(())
+    show(rt, name, &draft)
 }
 
 pub(crate) fn rungs(rt: &HostRuntime) -> anyhow::Result<()> {
@@ -135,6 +129,5 @@ pub(crate) fn two_faults(rt: &HostRuntime) -> anyhow::Result<()> {
     show(rt, "a wrong length and a body cut", &length)?;
     let mut tag = Draft::front(rt.alloc(), &[1], 0)?;
     tag.head(2, 6)?;
-    show(rt, "a wrong tag and a wrong length", &tag)?;
-    Ok(())
+    show(rt, "a wrong tag and a wrong length", &tag)
 }

@@ -26,21 +26,19 @@ pub(crate) fn shapes(rt: &HostRuntime) -> anyhow::Result<()> {
     show(rt, "256 calls", &both)?;
     let mut one = Draft::front(rt.alloc(), &[1], 0)?;
     one.version(1, &[5])?;
-    show(rt, "one place, m = 0", &one)?;
-    Ok(())
+    show(rt, "one place, m = 0", &one)
 }
 
 // The longest sound file: 16 places of 32 versions, 8 rows beside the price, and 256 calls.
 pub(crate) fn largest(rt: &HostRuntime) -> anyhow::Result<()> {
     let mut full = Draft::front(rt.alloc(), &SIXTEEN, 8)?;
-    for place in 1..17 {
+    for place in 1..=16 {
         full.versions(place, 32, &EIGHT_ROWS)?;
     }
     full.searches(256)?;
     let length = full.bytes.len();
     println!(rt; "the longest sound file has {length} bytes")?;
-    show(rt, "n = 16 with 32 versions, m = 8", &full)?;
-    Ok(())
+    show(rt, "n = 16 with 32 versions, m = 8", &full)
 }
 
 // No sound file has so many bytes: one of 32,768 meets another refusal, and a byte more is too long.
@@ -48,11 +46,8 @@ pub(crate) fn too_long(rt: &HostRuntime) -> anyhow::Result<()> {
     let mut long = Draft::front(rt.alloc(), &[1], 0)?;
     long.version(1, &[5])?;
     long.searches(256)?;
-    for _ in long.bytes.len()..32_768 {
-        long.fill(6, 1)?;
-    }
+    long.bytes.resize(32_768, 6)?;
     show(rt, "32,768 bytes", &long)?;
-    long.fill(6, 1)?;
-    show(rt, "32,769 bytes", &long)?;
-    Ok(())
+    long.raw(&[6])?;
+    show(rt, "32,769 bytes", &long)
 }

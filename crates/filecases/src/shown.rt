@@ -2,13 +2,11 @@
 use crate::drafts::Draft;
 use catalogue::Catalogue;
 use jobfile::Job;
-use report::{FAULT_BUFFER, write_fault};
-use rules::Fault;
+use report::fault_line;
 use std::io;
-use std::io::Write;
 
 // A job's counts: places and last row, listed places and ladders, calls.
-fn show_job(rt: &HostRuntime, job: &Job) -> io::Result<()> {
+fn show_job(rt: &impl Print, job: &Job) -> io::Result<()> {
     let (places, last_row) = (job.sheet.places, job.sheet.last_row);
     let listed = job.listing.places();
     let ladders = job.ladder.places();
@@ -16,19 +14,12 @@ fn show_job(rt: &HostRuntime, job: &Job) -> io::Result<()> {
     println!(rt; "JOB {places} {last_row} LISTED {listed} LADDERS {ladders} CALLS {calls}")
 }
 
-fn show_fault(rt: &HostRuntime, fault: &Fault) -> io::Result<()> {
-    let mut line = [0; FAULT_BUFFER];
-    match write_fault(fault, &mut line) {
-        Ok(length) => rt.stdout().write_all(&line[0..length]),
-        Err(_) => println!(rt; "the buffer is too short"),
-    }
-}
-
 // The name of a case, and what its file is read as.
-pub(crate) fn show(rt: &HostRuntime, name: &str, draft: &Draft) -> io::Result<()> {
+pub(crate) fn show(rt: &impl Print, name: &str, draft: &Draft) -> anyhow::Result<()> {
     print!(rt; "{name}: ")?;
     match jobfile::read(draft.bytes.as_slice()) {
-        Ok(job) => show_job(rt, &job),
-        Err(fault) => show_fault(rt, &fault),
+        Ok(job) => show_job(rt, &job)?,
+        Err(fault) => print!(rt; "{}", fault_line(&fault))?,
     }
+    Ok(())
 }

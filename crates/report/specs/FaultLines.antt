@@ -9,15 +9,15 @@ abbrev pub fault_buffer : ℕ
 fault_buffer = 64
 
 -- The line of a fault: a word before each number, the numbers in decimal, and a newline.
-unfoldable pub fault_line : Fault → List ℕ
+abbrev pub fault_line : Fault → List ℕ
 fault_line f =
-    (codes "REFUSED " ++ decimal f.number) ++
-    ((codes " LAYER " ++ decimal f.layer) ++
-    ((codes " AT " ++ decimal f.byte) ++
-    ((codes " PLACE " ++ decimal f.place) ++
-    ((codes " VERSION " ++ decimal f.version) ++
-    ((codes " ROW " ++ decimal f.row) ++
-    codes "\n")))))
+    codes "REFUSED " ++ decimal f.number ++
+    codes " LAYER " ++ decimal f.layer ++
+    codes " AT " ++ decimal f.byte ++
+    codes " PLACE " ++ decimal f.place ++
+    codes " VERSION " ++ decimal f.version ++
+    codes " ROW " ++ decimal f.row ++
+    codes "\n"
 
 -- The line stands at the front of the buffer, the answer is its length, and the bytes after it are as before.
 pub record Written (f : Fault) (before : List ℕ) (n : ℕ) (after : List ℕ) : Type 0 where

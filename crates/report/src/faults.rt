@@ -1,27 +1,39 @@
 // The line of a fault.
-ghost use Rattle.std.specs.Prelude.{◌≤◌, length};
-ghost use Rattle.report.specs.Puts.{Puts};
+ghost use Rattle.std.specs.Prelude.{◌≡◌, ◌+◌, ◌≤◌, ◌++◌, length};
+ghost use Rattle.arrayvec.specs.ArrayString.{array_string_len};
 ghost use Rattle.report.specs.FaultLines.{fault_buffer, fault_line, Answered};
 
-use crate::texts::{put_bytes, put_u8, put_u16};
+use arrayvec::ArrayString;
+use itoa::{Buffer, Integer};
 use rules::{Fault, Refusal};
 
 // A fault is written into a buffer of at least so many bytes, and its line is never longer.
 pub const FAULT_BUFFER: usize = 64;
 
-// Puts the line of a fault to the front, and answers its length.
-fn put_fault(fault: &Fault, out: &mut [u8]) -> usize
-    requires { fault_buffer ≤ length out.old }
-    ensures text { Puts out.old 0 (fault_line fault.now) result out.new }
-    ensures bound { result ≤ fault_buffer }
+// Puts a word and then a number behind a line that has room for both.
+fn put<I: Integer>(line: &mut ArrayString<FAULT_BUFFER>, word: &str, number: I)
+    requires { array_string_len line.old + length word.now + I.MAX_STR_LEN ≤ fault_buffer }
+    ensures text { line.new.bytes ≡ line.old.bytes ++ word.now ++ I.text number }
+    ensures bound { array_string_len line.new ≤ array_string_len line.old + length word.now + I.MAX_STR_LEN }
 {
-    let at = put_u8(out, 0, b"REFUSED ", fault.number);
-    let at = put_u8(out, at, b" LAYER ", fault.layer);
-    let at = put_u16(out, at, b" AT ", fault.byte);
-    let at = put_u8(out, at, b" PLACE ", fault.place);
-    let at = put_u8(out, at, b" VERSION ", fault.version);
-    let at = put_u8(out, at, b" ROW ", fault.row);
-    put_bytes(out, at, b"\n")
+    line.push_str(word);
+    line.push_str(Buffer::new().format(number));
+}
+
+// The line of a fault.
+pub fn fault_line(fault: &Fault) -> ArrayString<FAULT_BUFFER>
+    ensures text { result.bytes ≡ fault_line fault.now }
+    ensures bound { array_string_len result ≤ fault_buffer }
+{
+    let mut line = ArrayString::new();
+    put(&mut line, "REFUSED ", fault.number);
+    put(&mut line, " LAYER ", fault.layer);
+    put(&mut line, " AT ", fault.byte);
+    put(&mut line, " PLACE ", fault.place);
+    put(&mut line, " VERSION ", fault.version);
+    put(&mut line, " ROW ", fault.row);
+    line.push_str("\n");
+    line
 }
 
 // Writes the line of a fault to the front of a buffer, and answers its length; a buffer that has fewer bytes than are
@@ -32,5 +44,7 @@ pub fn write_fault(fault: &Fault, out: &mut [u8]) -> Result<usize, Refusal>
     if out.len() < FAULT_BUFFER {
         return Err(Refusal::BufferTooShort);
     }
-    Ok(put_fault(fault, out))
+    let line = fault_line(fault);
+    out[..line.len()].copy_from_slice(line.as_bytes());
+    Ok(line.len())
 }

@@ -1,10 +1,9 @@
-// The line of a fault, as text in a lent buffer.
+// The line of a fault, as text.
 #![tactic(auto)]
 
 mod faults;
-mod texts;
 
-pub use faults::{FAULT_BUFFER, write_fault};
+pub use faults::{FAULT_BUFFER, fault_line, write_fault};
 
 #[cfg(test)]
 mod tests;
