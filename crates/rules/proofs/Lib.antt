@@ -8,6 +8,7 @@ pub mod Firsts
 pub mod Learning
 pub mod Invariant
 pub mod Potential
+pub mod Ranges
 pub mod Agree
 pub mod Ending
 pub mod Replies

@@ -52,11 +52,11 @@ module _ {A : Type 0} (P : A → Type 0) where
   each_all f zero h = tt
   each_all f (suc k) h = All-append P (each_to f k) (f (suc k)) (each_all f k (λ q a b. h q a (omega arith))) (h (suc k) (omega arith) (omega arith))
 
-contains_any : (q : ℕ) (xs : List ℕ) → contains q xs ≡ true → Any (λ x. x ≡ q) xs
+pub contains_any : (q : ℕ) (xs : List ℕ) → contains q xs ≡ true → Any (λ x. x ≡ q) xs
 contains_any q [] h = let z : ◌≡◌ {A = ℕ} 0 1 = cc in absurd (omega (arith, z))
 contains_any q (x ∷ xs) h = elim (or_cases (eqb x q) (contains q xs) h) [ inl e ↦ inl (eqb-true x q e) | inr e ↦ inr (contains_any q xs e) ]
 
-any_contains : (q : ℕ) (xs : List ℕ) → Any (λ x. x ≡ q) xs → contains q xs ≡ true
+pub any_contains : (q : ℕ) (xs : List ℕ) → Any (λ x. x ≡ q) xs → contains q xs ≡ true
 any_contains q [] h = absurd h
 any_contains q (x ∷ xs) (inl e) = or_left (eqb x q) (contains q xs) (eq-eqb x q e)
 any_contains q (x ∷ xs) (inr h) = or_right (eqb x q) (contains q xs) (any_contains q xs h)
