@@ -10,7 +10,7 @@ use rules::{Fault, Refusal};
 // A fault is written into a buffer of at least so many bytes, and its line is never longer.
 pub const FAULT_BUFFER: usize = 64;
 
-// Puts a word and then a number behind a line that has room for both.
+// Puts a word and then a number behind a line that has room for both. (`write!` would say what the line is only on Ok.)
 fn put<I: Integer>(line: &mut ArrayString<FAULT_BUFFER>, word: &str, number: I)
     requires { array_string_len line.old + length word.now + I.MAX_STR_LEN ≤ fault_buffer }
     ensures text { line.new.bytes ≡ line.old.bytes ++ word.now ++ I.text number }

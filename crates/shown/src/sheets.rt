@@ -6,7 +6,7 @@ use crate::numbers::FirstNumbers;
 use rules::{Request, Row, Sheet};
 use std::fmt;
 
-// So many rows from the front of a table, a line each, numbered from 1.
+// So many rows from the front of a table, a line each, numbered from 1; `FirstNumbers` numbers nothing, so it stands apart.
 #[derive(Drop)]
 struct FirstRows<'a> {
     count: u8,
