@@ -132,6 +132,7 @@ pub(crate) fn check_version(
         place,
         version: has + 1,
     };
+    // By row and not in chunks, since the same check serves the rungs of a ladder.
     check_amounts(
         sheet.last_row,
         |row| i64::from(number_at(body, 1 + 4 * usize::from(row))),

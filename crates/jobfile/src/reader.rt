@@ -6,12 +6,13 @@ use crate::fields::Section;
 use crate::job::Job;
 
 // The job as far as it is read, and where the next field begins.
+// Each reader of a body moves on by itself: what is kept here holds again only then.
 #[derive(Drop)]
 pub(crate) struct Reader<'a> {
     file: &'a [u8],
     at: u16,
     section: Section,
-    // So many rows are read.
+    // So many rows are read; the sheet's tables are plain.
     rows: u8,
     job: Job,
     ghost within: { at ≤ length file.now },
