@@ -13,7 +13,7 @@ use Rattle.jobfile.specs.Begun.{BeforeOrder}
 use Rattle.jobfile.specs.InMemory.{listed_of, ladders_of}
 use Rattle.jobfile.specs.Reading.{Reading, FieldRead, decode, content_tests, early, field_length, with_entry, after_tests}
 
--- The front of a job as far as a reader has it.
+-- The front of a job as far as a reader has it; between the head of the order field and its body the order is whatever the sheet has.
 abbrev pub front_job : Reader → Stated
 front_job r =
     record {

@@ -15,12 +15,12 @@ abbrev pub rising : Ground → Bool
 rising [] = true
 rising (a ∷ g) = list_all (before a) g && rising g
 
--- The line at an index has the row and level of another. Put in, the one of the two that is kept stands there.
+-- A line is put in by keeping it, or the line at an index, at that index.
 pub record Meets (g : Ground) (a : Line) (at : ℕ) : Type 0 where
   pub there : at < length g
   pub kept_there : (S : Setting) → slice_set g at (kept S a (slice_index_or g at no_line)) ≡ with_line S a g
 
--- No line has the row and level of another. Put in, it stands at an index, and the lines from there on move up.
+-- A line is put in at an index, and the lines from there on move up.
 pub record Between (g : Ground) (a : Line) (at : ℕ) : Type 0 where
   pub there : at ≤ length g
   pub put_there : (S : Setting) → insert g at a ≡ with_line S a g
