@@ -1,5 +1,6 @@
 -- The numbers of the refusals, and the layers that give them. Assumes nothing.
-use Rattle.std.specs.Prelude.{ℕ, Ok, Err, Option, Some, None, Result}
+use Rattle.std.specs.Prelude.{ℕ, Bool, Ok, Err, Result, if◌then◌else◌}
+use Rattle.std.specs.Option.{ok_or}
 use Rattle.rules.specs.declared.kinds.Kind.{Kind}
 use Rattle.rules.specs.Joinings.{kind_numbered}
 use Rattle.rules.specs.declared.refusals.Refusal.{Refusal}
@@ -59,11 +60,14 @@ fault_at e q v r = fault_in e 0 q v r
 abbrev pub fault : Refusal → Fault
 fault e = fault_at e 0 0 0
 
--- What was found, or else the refusal.
-abbrev pub found_or : {X : Type 0} → Refusal → Option X → Result X Refusal
-found_or e (Some x) = Ok x
-found_or e None = Err e
+-- What follows where something holds, and else why not.
+abbrev pub where_holds : {X E : Type 0} → Bool → E → Result X E → Result X E
+where_holds holds e r = if holds then r else Err e
+
+-- Done where something holds, and else why not.
+abbrev pub done_if : {E : Type 0} → Bool → E → Result (Unit {0}) E
+done_if holds e = where_holds holds e (Ok tt)
 
 -- The kind that a number stands for; a number that stands for none is refused.
 abbrev pub kind_read : ℕ → Result Kind Refusal
-kind_read n = found_or UnknownKind (kind_numbered n)
+kind_read n = ok_or (kind_numbered n) UnknownKind

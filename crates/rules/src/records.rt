@@ -9,7 +9,8 @@ pub struct Request {
     pub number: i32,
 }
 
-// A request with its answer: 0, or the number of the refusal, as a record has it.
+// A request with its answer: 0, or the number of the refusal. The answer stays plain: a record is lent with room for a
+// number.
 #[derive(Clone, Copy, Debug, Default, PartialEq, Eq)]
 pub struct CallRecord {
     pub request: Request,

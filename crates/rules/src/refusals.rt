@@ -10,7 +10,7 @@ use std::fmt;
 pub enum Refusal {
     // The file is longer than a file may be.
     FileTooLong = 1,
-    // A field ends before its head or its body does.
+    // A field ends before its head or its body does, or passes the end of the bytes.
     FieldCut = 2,
     // A tag isn't allowed where it stands, or the file ends before its order field.
     TagNotAllowed = 3,
@@ -18,7 +18,7 @@ pub enum Refusal {
     WrongLength = 4,
     // A call record has a code that there isn't, or a part that its code doesn't use isn't 0.
     NoCall = 5,
-    // The sheet has no place or too many, or too many rows.
+    // A sheet has no place or too many, or too many rows; or a catalogue is to have no row or too many.
     CountOutside = 6,
     // A row's kind has a number that stands for none.
     UnknownKind = 7,
@@ -26,9 +26,9 @@ pub enum Refusal {
     LimitBeyond = 8,
     // The order doesn't list each place once.
     OrderNotOnce = 9,
-    // A place comes out of turn, or lies above the number of places.
+    // A place comes out of turn or lies above the number of places, or there is no such position.
     PlaceOutOfTurn = 10,
-    // A place has one version too many, or a ladder none or too many.
+    // A place has one version too many, or a ladder none or too many; or there can be no such version.
     VersionsOutside = 11,
     // The catalogue has other counts of places or rows than the sheet.
     CountsDiffer = 12,
@@ -36,7 +36,7 @@ pub enum Refusal {
     AmountBeyond = 13,
     // The job is closed where the call wants a running search, or the other way round.
     NotInThisState = 14,
-    // A limit change names a row that there isn't.
+    // A row is named that there isn't.
     NoSuchRow = 15,
     // A budget lies outside, or would take the search past the most steps.
     BudgetBeyond = 16,
@@ -52,7 +52,8 @@ impl Refusal {
         self as u8
     }
 
-    // The layer that tests for it: 1 the file, 2 the sheet, 3 the catalogue, 4 the job.
+    // The layer that tests for it: 1 the file, 2 the sheet, 3 the catalogue, 4 the job. A number, as faults keep it and
+    // reports tell it.
     pub fn layer(self) -> u8
         ensures { result ≡ refusal_layer self }
     {
@@ -79,7 +80,7 @@ impl Error for Refusal {}
 
 // A refusal with the place where it was met; a number that says nothing is 0. All are plain numbers, as a job keeps its
 // fault and a report tells it.
-#[derive(Clone, Copy, Debug, PartialEq, Eq)]
+#[derive(Clone, Copy, Debug, Default, PartialEq, Eq)]
 pub struct Fault {
     pub layer: u8,
     pub number: u8,

@@ -11,7 +11,7 @@ pub struct Row {
 
 // The counts, kinds, limits and order of a job. Nothing is tested here: opening a job tests all of it. So the counts are
 // not the lengths of the tables: one that lies outside must be sayable too.
-#[derive(Clone, Copy)]
+#[derive(Clone, Copy, Debug, PartialEq, Eq)]
 pub struct Sheet {
     pub places: u8,
     // Rows are numbered from 0, the price, to this.
