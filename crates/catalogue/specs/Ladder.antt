@@ -5,7 +5,7 @@ use Rattle.rules.specs.declared.refusals.Refusal.{Refusal}
 use Rattle.rules.specs.declared.refusals.Refusal.TheVariants.{PlaceOutOfTurn, VersionsOutside}
 use Rattle.rules.specs.Bounds.{most_places, most_versions}
 use Rattle.rules.specs.Catalogues.{Meaning, rung}
-use Rattle.catalogue.specs.Places.{done_if}
+use Rattle.rules.specs.Refusals.{done_if}
 use Rattle.catalogue.specs.declared.rung.Rung.{Rung}
 use Rattle.catalogue.specs.declared.ladder.LadderPlace.{LadderPlace}
 

@@ -5,7 +5,7 @@ use Rattle.rules.specs.declared.refusals.Refusal.TheVariants.{FieldCut, PlaceOut
 use Rattle.rules.specs.Bounds.{most_places, most_versions}
 use Rattle.rules.specs.Numbers.{number_at}
 use Rattle.rules.specs.Catalogues.{Meaning}
-use Rattle.catalogue.specs.Places.{done_if}
+use Rattle.rules.specs.Refusals.{done_if}
 use Rattle.catalogue.specs.declared.listed.ListedPlace.{ListedPlace}
 
 -- The bytes of a version field: four at its front, and four for each row.

@@ -1,6 +1,5 @@
 -- What the catalogues made place by place have in common. Assumes nothing.
-use Rattle.std.specs.Prelude.{ℕ, ◌≤◌, Bool, ◌&&◌, if◌then◌else◌, Ok, Err, Result, nat_le}
-use Rattle.rules.specs.declared.refusals.Refusal.{Refusal}
+use Rattle.std.specs.Prelude.{ℕ, ◌≤◌, Bool, ◌&&◌, nat_le}
 use Rattle.rules.specs.Bounds.{most_places, most_rows, most_versions}
 
 -- A catalogue can have so many rows.
@@ -14,7 +13,3 @@ Counted rows places = (1 ≤ rows) × (rows ≤ most_rows) × (places ≤ most_p
 -- A place has a version, and no more versions than there may be.
 abbrev pub Versions : ℕ → Type 0
 Versions count = (1 ≤ count) × (count ≤ most_versions)
-
--- Done where a test is passed, and else refused.
-abbrev pub done_if : Bool → Refusal → Result (Unit {0}) Refusal
-done_if passed refusal = if passed then Ok tt else Err refusal

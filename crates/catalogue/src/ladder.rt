@@ -13,7 +13,8 @@ use crate::rung::Rung;
 use arrayvec::ArrayVec;
 use rules::{MOST_PLACES, MOST_ROWS, MOST_VERSIONS, Refusal};
 
-// A place: how many versions it has, and its rung in each row.
+// A place: how many versions it has, and its rung in each row. A whole table, as `add` takes a rung for every row that there
+// may be.
 #[derive(Clone, Copy, Default)]
 struct LadderPlace {
     count: u8,

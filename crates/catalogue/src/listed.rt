@@ -86,7 +86,9 @@ impl Listing {
     fn fits(&self, start: usize) -> bool
         ensures { result ≡ field_fits self.now.end self.now.rows start }
     {
-        start <= self.end && version_width(self.rows) <= self.end - start
+        self.end
+            .checked_sub(start)
+            .is_some_and(|left| version_width(self.rows) <= left)
     }
 
     // How many places are added.
@@ -96,7 +98,7 @@ impl Listing {
         self.places.len() as u8
     }
 
-    // How many versions a place has so far, and 0 where it isn't added.
+    // How many versions a place has so far. A count: a place that isn't added yet has 0, as a reader asks before the first.
     pub fn versions(&self, place: u8) -> u8
         ensures { result ≡ versions_so_far self.now.places.items place }
     {

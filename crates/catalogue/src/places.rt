@@ -1,9 +1,10 @@
-// What the catalogues made place by place have in common. A generic table of rows and places for both would need a trait of
-// places, and is no plainer.
+// What the catalogues made place by place have in common. Not a generic table: of a place only the count is shared, and each
+// clause would reach the rest through one field more, so that it is no plainer.
 ghost use Rattle.std.specs.Prelude.{◌≡◌, ◌-◌, ◌<◌, ◌≤◌, length, MatchOption};
 ghost use Rattle.std.specs.List.{HoldsAt};
 ghost use Rattle.rules.specs.declared.refusals.Refusal.TheVariants.{CountOutside};
-ghost use Rattle.catalogue.specs.Places.{allowed_rows, done_if};
+ghost use Rattle.rules.specs.Refusals.{done_if};
+ghost use Rattle.catalogue.specs.Places.{allowed_rows};
 
 use rules::{MOST_ROWS, Refusal};
 

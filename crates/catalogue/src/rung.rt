@@ -3,7 +3,7 @@ ghost use Rattle.std.specs.Prelude.{◌≡◌, ◌*◌, ◌^◌, ◌≤◌, pos,
 ghost use Rattle.rules.specs.Catalogues.{rung};
 
 // The amounts of one row at one place: the base at version 1, and a step more for each version above.
-#[derive(Clone, Copy)]
+#[derive(Clone, Copy, Debug, PartialEq, Eq)]
 pub struct Rung {
     pub base: i32,
     pub step: i32,
@@ -11,7 +11,7 @@ pub struct Rung {
     ghost near: { (unsigned_abs base ≤ 2 ^ 31) × (unsigned_abs step ≤ 2 ^ 31) },
 }
 
-// A rung at 0; by hand, since no derive reaches a struct with a ghost field.
+// A rung at 0; by hand, since `Default` can't be derived on a struct with a ghost field.
 impl Default for Rung {
     ghost is_default = { λ rung. (rung.base ≡ pos 0) × (rung.step ≡ pos 0) };
 

@@ -1,4 +1,5 @@
-// The amounts are added, and the less total is worse.
+// The amounts are added, and the less total is worse. It differs from the other sum in its order alone: a struct with the
+// order as a parameter is no plainer than these lines.
 ghost use Rattle.std.specs.Prelude.{refl};
 ghost use Rattle.rules.specs.Joinings.{sum_at_least};
 ghost use Rattle.rules.proofs.JoiningLaws.{sum_at_least_laws};

@@ -130,11 +130,6 @@ record_within s k r within is =
     let at = adjoin_at s.grounds.items 0 (length s.lines.items) k r s.adjoin within in
     (sym is, rw is at.0, rw is at.1)
 
--- the lines of the grounds, with one ground more
-pub line_count_push : (gs : List Ground) (g : Ground) → line_count (gs ++ g ∷ []) ≡ line_count gs + length g
-line_count_push [] g = omega arith
-line_count_push (h ∷ gs) g = omega (arith, line_count_push gs g)
-
 -- what there is space for has it
 pub room_fits : (gs : List Ground) (g : Ground) → room gs g ≡ true → line_count gs + length g ≤ most_lines
 room_fits gs g h = leb-true _ _ (and_parts (ltb (length gs) most_grounds) _ h).1

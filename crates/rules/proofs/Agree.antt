@@ -1,11 +1,11 @@
 -- What the rules name at a state is what `next` works out. Assumes nothing.
 use Rattle.std.proofs.Common.{◌≡◌, ℕ, zero, suc, ◌<◌, ◌≤◌, true, false, cond, eqb, [], ◌∷◌, is_some, Some, None, Option, sym, refl, ap, ◌∙◌, subst, inl, inr, arith}
-use Rattle.std.proofs.lemmas.Bool.{cond-true, cond-false, cond_both, cases_lt, cases_eq, eq-eqb, ne_eqb, eqb-true, eqb-false}
+use Rattle.std.proofs.lemmas.Bool.{cond-true, cond-false, cond_both, cases_lt, eq-eqb, ne_eqb, eqb-true, eqb-false}
 use Rattle.rules.specs.Sheets.{Limits}
 use Rattle.rules.specs.Grounds.{Ground, Part, Setting, open_places}
 use Rattle.rules.specs.Search.{Ended, Full, Learns, Named, State, Step, after_ground, at_part, by_ground, ended, first_ground, found, full, go_on, ground_at, learns, lowest_free, move, next, no_other, no_version, room, set, stepped, stopped, try_place, with_best, with_ground}
 use Rattle.rules.proofs.Bools.{clash}
-use Rattle.rules.proofs.Firsts.{some_of, none_of}
+use Rattle.rules.proofs.Firsts.{every_version, some_of, none_of}
 
 module _ (S : Setting) (L : Limits) where
   -- what is known of the lowest free version up to k
@@ -70,12 +70,8 @@ module _ (S : Setting) (L : Limits) where
       ap (by_ground S L σ) (none_of (first_ground S L σ σ.part) f)
       ∙ cond-true (eqb (open_places S σ.part) 0) _ _ (eq-eqb _ 0 p)
 
-  back_in : (σ : State) (v : ℕ) (t : Part) → stopped S L σ (v ∷ t) ≡ true → (x : ℕ) → ((x ≡ v → ⊥) → stopped S L σ (x ∷ t) ≡ true) → stopped S L σ (x ∷ t) ≡ true
-  back_in σ v t h x other =
-      elim (cases_eq x v) [ inl e ↦ subst (λ y. stopped S L σ (y ∷ t) ≡ true) (sym e) h | inr d ↦ other d ]
-
   next_learns : (σ : State) (t : Part) → Learns S L σ t → next S L σ ≡ try_place S L σ t None
-  next_learns σ t (no_other v _ e h all) = next_set σ v t e h ∙ none_is σ t (λ x p q. back_in σ v t h x (all x p q))
+  next_learns σ t (no_other v _ e h all) = next_set σ v t e h ∙ none_is σ t (λ x p q. every_version S L σ v t h x (all x p q))
   next_learns σ t (no_version p f all) = next_open σ p f ∙ none_is σ σ.part (λ x a b. all x a b (λ z. z))
 
   has_space : (σ : State) (t : Part) → room σ.learned (ground_at S L σ t) ≡ true → try_place S L σ t None ≡ stepped (with_ground σ t (ground_at S L σ t))
@@ -88,7 +84,7 @@ module _ (S : Setting) (L : Limits) where
   pub step_next : (σ τ : State) → Step S L σ τ → next S L σ ≡ stepped τ
   step_next σ τ (move v w t e h low d) =
       next_set σ v t e h
-      ∙ free_is σ t w low.counted low.there low.free (λ x p q. back_in σ v t h x (low.lowest x p q))
+      ∙ free_is σ t w low.counted low.there low.free (λ x p q. every_version S L σ v t h x (low.lowest x p q))
       ∙ ap stepped (sym d)
   step_next σ τ (found p f d) = next_found σ p f ∙ ap stepped (sym d)
   step_next σ τ (set w p f low d) =

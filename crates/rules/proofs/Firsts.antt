@@ -1,9 +1,10 @@
 -- The first ground that stands, and what keeps it standing. Assumes nothing.
-use Rattle.std.proofs.Common.{◌≡◌, ℕ, ◌≤◌, true, false, leb, List, [], ◌∷◌, ◌++◌, ℤ, is_some, Some, None, Option, refl, ap, subst, arith}
+use Rattle.std.proofs.Common.{◌≡◌, ℕ, ◌≤◌, true, false, leb, List, [], ◌∷◌, ◌++◌, ℤ, is_some, Some, None, Option, sym, refl, ap, subst, inl, inr, arith}
 use Rattle.std.specs.List.{AllByRecursion}
-use Rattle.std.proofs.lemmas.Bool.{cond-true, cond-false, cond_both, and_parts, and_from, le-leb, leb-true}
+use Rattle.std.proofs.lemmas.Bool.{cases_eq, cond-true, cond-false, cond_both, and_parts, and_from, le-leb, leb-true}
 use Rattle.rules.specs.Sheets.{Limits}
 use Rattle.rules.specs.Grounds.{Ground, Part, Setting, blocked, first_standing, open_places, stands}
+use Rattle.rules.specs.Search.{State, stopped}
 use Rattle.rules.proofs.Bools.{split, clash}
 use Rattle.rules.proofs.Joined.{joined_off}
 
@@ -75,3 +76,9 @@ module _ (S : Setting) where
       and_from _ _
       (and_from (leb (open_places S (v ∷ t)) l.level) _ (le-leb _ _ (omega arith)) (rw (joined_off S l.row l.level l.constant v t q) here.1))
       (stands_below L v t g parts.1)
+
+module _ (S : Setting) (L : Limits) where
+  -- with the version at hand taken back in
+  pub every_version : (σ : State) (v : ℕ) (t : Part) → stopped S L σ (v ∷ t) ≡ true → (x : ℕ) → ((x ≡ v → ⊥) → stopped S L σ (x ∷ t) ≡ true) → stopped S L σ (x ∷ t) ≡ true
+  every_version σ v t h x other =
+      elim (cases_eq x v) [ inl e ↦ subst (λ y. stopped S L σ (y ∷ t) ≡ true) (sym e) h | inr d ↦ other d ]

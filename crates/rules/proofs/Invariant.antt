@@ -13,7 +13,7 @@ use Rattle.rules.specs.Grounds.{Ground, Learnable, Part, Proper, Setting, SoundS
 use Rattle.rules.specs.Search.{Learns, Runs, State, Step, found, ground_at, in_force, learns, line_count, more, move, no_other, no_version, none, room, set, start, stopped, with_best, with_ground}
 use Rattle.rules.proofs.ByPosition.{Complete, PartKeeps}
 use Rattle.rules.proofs.Bools.{split, clash}
-use Rattle.rules.proofs.Firsts.{blocked_left, blocked_right, blocked_here, blocked_tighter, Tighter}
+use Rattle.rules.proofs.Firsts.{every_version, blocked_left, blocked_right, blocked_here, blocked_tighter, Tighter}
 use Rattle.rules.proofs.Learning.{ledger_learnable, learn_learnable, learn_stands}
 
 -- with each version lower than one that is set, a ground stands
@@ -179,11 +179,6 @@ module _ (S : Setting) where
         All-append (Learnable S) σ.learned _ i.learnable
         (learn_learnable S W (in_force S L σ) (ledger S σ.learned) (ledger_learnable S σ.learned i.learnable) t small all, tt)
 
-    -- with the version at hand taken back in
-    pub every_version : (σ : State) (v : ℕ) (t : Part) → stopped S L σ (v ∷ t) ≡ true → (x : ℕ) → ((x ≡ v → ⊥) → stopped S L σ (x ∷ t) ≡ true) → stopped S L σ (x ∷ t) ≡ true
-    every_version σ v t h x other =
-        elim (cases_eq x v) [ inl e ↦ subst (λ y. stopped S L σ (y ∷ t) ≡ true) (sym e) h | inr d ↦ other d ]
-
     -- what is known of the part-choice after which a ground is learned
     pub record WhereLearned (σ : State) (t : Part) : Type 0 where
       pub small : length t < S.places
@@ -195,7 +190,7 @@ module _ (S : Setting) where
     where_learned σ i t (no_other v _ e h all) =
         let pr : Proper S (v ∷ t) = subst (Proper S) e i.proper in
         let pa : Passed (stopped S L σ) (v ∷ t) = subst (Passed (stopped S L σ)) e i.passed in
-        record { small = pr.0; proper = pr.3; passed = pa.1; all = λ x p q. every_version σ v t h x (all x p q) }
+        record { small = pr.0; proper = pr.3; passed = pa.1; all = λ x p q. every_version S L σ v t h x (all x p q) }
     where_learned σ i t (no_version some free all) =
         record { small = omega arith; proper = i.proper; passed = i.passed; all = λ x p q. all x p q (λ z. z) }
 
@@ -206,7 +201,7 @@ module _ (S : Setting) where
         subst Invariant (sym d) (record {
           proper = (pr.0, low.counted, low.there, pr.3);
           learnable = i.learnable;
-          passed = (λ x p q. every_version σ v t h x (low.lowest x p q), pa.1);
+          passed = (λ x p q. every_version S L σ v t h x (low.lowest x p q), pa.1);
           best = i.best;
           space = i.space;
         })

@@ -4,12 +4,12 @@ use Rattle.std.specs.List.{AllByRecursion}
 use Rattle.std.proofs.lemmas.Bool.{cond_both, and_parts, eqb-true, cases_lt}
 use Rattle.rules.specs.declared.lines.Line.{Line}
 use Rattle.rules.specs.Sheets.{Any}
-use Rattle.rules.specs.Grounds.{Ground, Ordered, Part, Setting, SoundSetting, before, kept, learn_from, learned_up_to, moved, open_places, same_place, with_line, with_lines}
+use Rattle.rules.specs.Grounds.{Ground, Part, Setting, SoundSetting, before, kept, learn_from, learned_up_to, moved, open_places, same_place, with_line, with_lines}
 use Rattle.rules.specs.Theorems.{LearningLaw, Replaces}
 use Rattle.rules.proofs.Bools.{split, clash}
 use Rattle.rules.proofs.Joined.{still_worse}
 use Rattle.rules.proofs.StandingLines.{Known, with_lines_all}
-use Rattle.rules.proofs.Shapes.{ordered_with_lines}
+use Rattle.rules.proofs.Shapes.{up_to_ordered}
 
 any_weaker : {A : Type 0} (P Q : A → Type 0) → ((x : A) → P x → Q x) → (xs : List A) → Any P xs → Any Q xs
 any_weaker P Q f [] h = h
@@ -89,10 +89,6 @@ module _ (S : Setting) (W : SoundSetting S) where
     moved_known v [] h = tt
     moved_known v (l ∷ ls) h = (cond_both (eqb (suc l.level) (open_places S t)) _ l (Known S) (λ _. h.0) (λ _. h.0), moved_known v ls h.1)
 
-    up_to_ordered : (k : ℕ) → Ordered (learned_up_to S t pick k)
-    up_to_ordered zero = tt
-    up_to_ordered (suc k) = ordered_with_lines S (map (moved S t (suc k)) (pick (suc k))) (learned_up_to S t pick k) (up_to_ordered k)
-
     abbrev From : ℕ → Line → Type 0
     From n l = (v : ℕ) × (1 ≤ v) × (v ≤ n) × Any (λ k. l ≡ moved S t v k) (pick v)
 
@@ -126,7 +122,7 @@ pub learning_law : LearningLaw
 unfolding learn_from
 learning_law S W t pick known =
     record {
-      ordered = up_to_ordered S W t pick (S.versions (open_places S t));
+      ordered = up_to_ordered S t pick (S.versions (open_places S t));
       taken_over = up_to_from S W t pick (S.versions (open_places S t)) (S.versions (open_places S t)) (omega arith);
       replaced = λ v a b. all_unmap (moved S t v) (λ k. Any (λ l. Replaces S l k) (learned_up_to S t pick (S.versions (open_places S t)))) (pick v) (up_to_replaced S W t pick (S.versions (open_places S t)) known v a b);
     }

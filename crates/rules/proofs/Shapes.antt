@@ -32,6 +32,10 @@ module _ (S : Setting) where
   ordered_with_lines [] g h = h
   ordered_with_lines (a ∷ ls) g h = ordered_with_lines ls (with_line S a g) (ordered_with_line a g h)
 
+  pub up_to_ordered : (t : Part) (pick : ℕ → Ground) (k : ℕ) → Ordered (learned_up_to S t pick k)
+  up_to_ordered t pick zero = tt
+  up_to_ordered t pick (suc k) = ordered_with_lines (map (moved S t (suc k)) (pick (suc k))) (learned_up_to S t pick k) (up_to_ordered t pick k)
+
   some_with_line : (a : Line) (g : Ground) → 1 ≤ length (with_line S a g)
   some_with_line a [] = omega arith
   some_with_line a (b ∷ g) =
@@ -86,10 +90,6 @@ module _ (S : Setting) where
           (all_fine_moved t (suc k) (pick (suc k)) small (omega arith) h (fine_lines (pick (suc k)) here.0.in_range here.1))
           (up_to_fine k (omega arith) (λ v p q. all v p (omega arith)))
 
-      up_to_ordered : (k : ℕ) → Ordered (learned_up_to S t pick k)
-      up_to_ordered zero = tt
-      up_to_ordered (suc k) = ordered_with_lines (map (moved S t (suc k)) (pick (suc k))) (learned_up_to S t pick k) (up_to_ordered k)
-
       up_to_some : (k : ℕ) → 1 ≤ k → Shaped (pick k) → 1 ≤ length (learned_up_to S t pick k)
       up_to_some zero p h = absurd (omega arith)
       up_to_some (suc k) p h =
@@ -103,7 +103,7 @@ module _ (S : Setting) where
           let fine = up_to_fine k (omega arith) all in (
             record {
               some_line = up_to_some k some (all k some (omega arith));
-              ordered = up_to_ordered k;
+              ordered = up_to_ordered t pick k;
               in_range = All-weaker Fine InRange (λ l h. h.0) (learned_up_to S t pick k) fine;
             },
             All-weaker Fine (Near B) (λ l h. h.1) (learned_up_to S t pick k) fine,

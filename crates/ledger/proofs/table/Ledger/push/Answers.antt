@@ -1,7 +1,8 @@
 use Rattle.std.proofs.Common.{take, ap, sym, ◌∙◌, arith, length-take}
 use Rattle.rules.specs.Search.{line_count}
 use Rattle.ledger.specs.Model.{held}
-use Rattle.ledger.proofs.Cuts.{line_count_push, room_fits}
+use Rattle.rules.proofs.Invariant.{line_count_push}
+use Rattle.ledger.proofs.Cuts.{room_fits}
 use Rattle.ledger.proofs.table.Ledger.push.Goals as goal
 
 pub put_line-requires-clause-room : goal.put_line-requires-clause-room
