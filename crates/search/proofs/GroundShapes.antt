@@ -1,7 +1,6 @@
 -- Learned grounds keep their shape, and a closing ground has no row twice. Assumes nothing.
-use Rattle.std.proofs.Common.{◌≡◌, ℕ, zero, suc, ◌+◌, ◌≤◌, true, eqb, leb, List, [], ◌∷◌, map, length, get_or, Some, None, Option, sym, refl, ap, subst, arith}
+use Rattle.std.proofs.Common.{◌≡◌, ℕ, zero, suc, ◌+◌, ◌≤◌, true, eqb, leb, List, [], ◌∷◌, ◌++◌, map, length, get_or, Some, None, Option, sym, refl, ap, subst, arith}
 use Rattle.std.specs.List.{AllByRecursion}
-use Rattle.std.proofs.ByRecursion.{All-append, All-map, All-push, All-weaker}
 use Rattle.std.proofs.lemmas.List.{take_all}
 use Rattle.std.proofs.lemmas.Bool.{and_parts, and_from, leb-true, le-leb, cond_both}
 use Rattle.std.proofs.lemmas.Bool.Decides.{nat_tests}
@@ -36,12 +35,16 @@ module _ (S : Setting) (few : S.last_row ≤ greatest_row) where
   row_fit : (r : ℕ) → r ≤ greatest_row → Fit (of_row S r)
   row_fit r h = ((tt, tt), ((h, omega arith), tt))
 
+  append_fit : (gs hs : List Ground) → AllByRecursion Fit gs → AllByRecursion Fit hs → AllByRecursion Fit (gs ++ hs)
+  append_fit [] hs h k = k
+  append_fit (g ∷ gs) hs h k = (h.0, append_fit gs hs h.1 k)
+
   starting_fit : (r : ℕ) → r ≤ greatest_row → AllByRecursion Fit (starting S r)
   starting_fit zero h = (row_fit 0 h, tt)
-  starting_fit (suc r) h = All-push Fit (starting S r) (of_row S (suc r)) (starting_fit r (omega arith)) (row_fit (suc r) h)
+  starting_fit (suc r) h = append_fit (starting S r) (of_row S (suc r) ∷ []) (starting_fit r (omega arith)) (row_fit (suc r) h, tt)
 
   ledger_fit : (gs : List Ground) → AllByRecursion Fit gs → AllByRecursion Fit (ledger S gs)
-  ledger_fit gs h = All-append Fit (starting S S.last_row) gs (starting_fit S.last_row few) h
+  ledger_fit gs h = append_fit (starting S S.last_row) gs (starting_fit S.last_row few) h
 
   -- a ground that stands with all places open has lines of one level, and so no row twice
   one_level : (L : Limits) (g : Ground) → stands S L [] g ≡ true → AllByRecursion InRange g → AllByRecursion (λ l. l.level ≡ S.places) g
@@ -96,6 +99,10 @@ module _ (S : Setting) (few : S.last_row ≤ greatest_row) where
     moved_in : (t : Part) (v : ℕ) (l : Line) → InRange l → InRange (moved S t v l)
     moved_in t v l h = cond_both (eqb (suc l.level) (open_places S t)) _ l InRange (λ e. (h.0, omega arith)) (λ e. h)
 
+    moved_all : (t : Part) (v : ℕ) (g : Ground) → AllByRecursion InRange g → AllByRecursion InRange (map (moved S t v) g)
+    moved_all t v [] h = tt
+    moved_all t v (l ∷ g) h = (moved_in t v l h.0, moved_all t v g h.1)
+
     picked_in : (P : Ground → Type 0) (o : Option Ground) → Holds (λ x. Fit x × P x) o → AllByRecursion InRange (ground_in o)
     picked_in P None h = tt
     picked_in P (Some g) h = h.0.1
@@ -106,7 +113,7 @@ module _ (S : Setting) (few : S.last_row ≤ greatest_row) where
         let below = up_to_fit t pick all k in
         let lines = map (moved S t (suc k)) (pick (suc k)) in (
           ordered_with_lines S lines _ below.0,
-          with_lines_all S InRange lines _ (All-map InRange (moved S t (suc k)) (pick (suc k)) (All-weaker InRange _ (moved_in t (suc k)) (pick (suc k)) (all (suc k)))) below.1,
+          with_lines_all S InRange lines _ (moved_all t (suc k) (pick (suc k)) (all (suc k))) below.1,
         )
 
     learn_fit : (t : Part) (pick : ℕ → Ground) → ((v : ℕ) → AllByRecursion InRange (pick v)) → Fit (learn_from S t pick)
@@ -120,8 +127,8 @@ module _ (S : Setting) (few : S.last_row ≤ greatest_row) where
     step_fit σ τ (set w e b f d) h = subst (λ (x : State). AllByRecursion Fit x.learned) (sym d) h
     step_fit σ τ (learns t l r d) h =
         subst (λ (x : State). AllByRecursion Fit x.learned) (sym d)
-        (All-push Fit σ.learned (ground_at S L σ t) h
-        (learn_fit t _ (λ v. picked_in _ (first_standing S (in_force S L σ) (ledger S σ.learned) (v ∷ t)) (first_holds S Fit (in_force S L σ) (v ∷ t) (ledger S σ.learned) (ledger_fit σ.learned h)))))
+        (append_fit σ.learned (ground_at S L σ t ∷ []) h
+        (learn_fit t _ (λ v. picked_in _ (first_standing S (in_force S L σ) (ledger S σ.learned) (v ∷ t)) (first_holds S Fit (in_force S L σ) (v ∷ t) (ledger S σ.learned) (ledger_fit σ.learned h))), tt))
 
     onward_fit : (b : ℕ) (σ : State) → AllByRecursion Fit σ.learned → ((τ : State) → AllByRecursion Fit τ.learned → AllByRecursion Fit (run_from S L b τ).state.learned) → (o : Outcome) → Named S L σ o → AllByRecursion Fit (onward S L σ b o).state.learned
     onward_fit b σ h rest (ended g) n = h

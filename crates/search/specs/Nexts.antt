@@ -1,26 +1,23 @@
 -- What comes next in a search, by the rules. Assumes nothing.
-use Rattle.std.specs.Prelude.{◌≡◌, suc, ◌+◌, ◌<◌, ◌≤◌, true, [], ◌∷◌, ℤ, pos, ◌-ℤ◌, Some, slice_index_or, unsigned_abs}
+use Rattle.std.specs.Prelude.{◌≡◌, ◌+◌, ◌<◌, ◌≤◌, true, [], ◌∷◌, slice_index_or, unsigned_abs}
 use Rattle.rules.specs.Bounds.{most_places}
-use Rattle.rules.specs.Search.{State, at_part, with_ground, room, Outcome, ended, full, stepped}
+use Rattle.rules.specs.Grounds.{part_price}
+use Rattle.rules.specs.Search.{State, at_part, with_ground, with_best, room, Outcome, ended, full, stepped}
 use Rattle.ledger.specs.Lines.{reach}
 use Rattle.ledger.specs.Model.{held}
 use Rattle.ledger.specs.Drafted.{drafted}
-use Rattle.search.specs.States.{grounds, state_of, above}
+use Rattle.search.specs.States.{chosen_from, job_limits, grounds, part_in, state_of, above}
 use Rattle.search.specs.declared.search.Search.{Search}
 use Rattle.search.specs.declared.next.Step.{Step}
 use Rattle.search.specs.declared.next.Step.TheVariants.{Set, Learn, Best}
 use Rattle.search.specs.declared.next.Next.{Next}
 use Rattle.search.specs.declared.next.Next.TheVariants.{Ended, Full, Makes}
 
--- One step more, with the part-choice for the best choice at a price.
-abbrev pub best_at : State → ℤ → State
-best_at σ price = record { part = σ.part; best = Some σ.part; cap = price -ℤ pos 1; steps = suc σ.steps; learned = σ.learned }
-
 -- The state after a step.
 abbrev pub after : Search → Step → State
 after s (Set pick) = at_part (state_of s) (pick.version ∷ above s pick.index)
 after s (Learn index d) = with_ground (state_of s) (above s index) (drafted d)
-after s (Best price) = best_at (state_of s) price
+after s (Best price) = with_best (chosen_from s) (job_limits s) (state_of s)
 
 -- What comes next.
 abbrev pub outcome_of : Search → Next → Outcome
@@ -28,11 +25,11 @@ outcome_of s (Ended g) = ended (slice_index_or (grounds s) g [])
 outcome_of s Full = full
 outcome_of s (Makes step) = stepped (after s step)
 
--- A step that the tables have space for.
+-- A step that the tables have space for; the price of the best is what it costs.
 abbrev pub ReadyStep : Search → Step → Type 0
 ReadyStep s (Set pick) = pick.index < s.grid.places
 ReadyStep s (Learn index d) = (index < s.grid.places) × (room (held s.ledger) (drafted d) ≡ true)
-ReadyStep s (Best price) = unsigned_abs price ≤ reach (most_places + most_places)
+ReadyStep s (Best price) = (unsigned_abs price ≤ reach (most_places + most_places)) × (price ≡ part_price (chosen_from s) (part_in s s.part))
 
 -- So it is with what comes next, if it is a step.
 abbrev pub Ready : Search → Next → Type 0

@@ -1,9 +1,10 @@
 -- A grid as a setting of the rules, and how a setting is made place by place. Assumes nothing.
-use Rattle.std.specs.Prelude.{ℕ, ◌-◌, Bool, cond, if◌then◌else◌, ◌&&◌, ℤ, pos, Ok, Err, Result, ◌==◌, nat_le, slice_index_or, unsigned_abs}
+use Rattle.std.specs.Prelude.{ℕ, ◌-◌, Bool, if◌then◌else◌, ◌&&◌, ℤ, pos, Ok, Result, ◌==◌, nat_le, slice_index_or, unsigned_abs}
 use Rattle.rules.specs.declared.kinds.Kind.{Kind}
 use Rattle.rules.specs.declared.kinds.Kind.TheVariants.{SumAtMost}
 use Rattle.rules.specs.declared.refusals.Refusal.{Refusal}
 use Rattle.rules.specs.declared.refusals.Refusal.TheVariants.{NoSuchRow, PlaceOutOfTurn, VersionsOutside, AmountBeyond}
+use Rattle.rules.specs.Refusals.{where_holds, done_if}
 use Rattle.rules.specs.Bounds.{greatest_row, greatest_amount, most_versions}
 use Rattle.rules.specs.Joinings.{joining}
 use Rattle.rules.specs.Grounds.{Setting}
@@ -32,7 +33,7 @@ put_kind S row k =
     record {
       places = S.places;
       last_row = S.last_row;
-      joining = λ r. cond (r == row) (joining k) (S.joining r);
+      joining = λ r. if r == row then joining k else S.joining r;
       versions = S.versions;
       amount = S.amount;
     }
@@ -48,7 +49,7 @@ put_versions S at n =
       places = S.places;
       last_row = S.last_row;
       joining = S.joining;
-      versions = λ p. cond (one_position p at) n (S.versions p);
+      versions = λ p. if one_position p at then n else S.versions p;
       amount = S.amount;
     }
 
@@ -60,20 +61,16 @@ put_amount S row at version z =
       last_row = S.last_row;
       joining = S.joining;
       versions = S.versions;
-      amount = λ r p v. cond (one_position p at && (v == version && r == row)) z (S.amount r p v);
+      amount = λ r p v. if one_position p at && (v == version && r == row) then z else S.amount r p v;
     }
 
 -- A setting has a position of this number.
 abbrev pub has_position : Setting → ℕ → Bool
 has_position S p = nat_le 1 p && nat_le p S.places
 
--- What follows where something holds, and else a refusal.
-abbrev pub where_holds : {X : Type 0} → Bool → Refusal → Result X Refusal → Result X Refusal
-where_holds holds e r = if holds then r else Err e
-
 -- What is told where the kind of a row is set: each row but the price has one that can be.
 abbrev pub kind_told : ℕ → Result (Unit {0}) Refusal
-kind_told row = where_holds (nat_le 1 row && nat_le row greatest_row) NoSuchRow (Ok tt)
+kind_told row = done_if (nat_le 1 row && nat_le row greatest_row) NoSuchRow
 
 -- The index of a position.
 abbrev pub index_told : Setting → ℕ → Result ℕ Refusal
@@ -81,7 +78,7 @@ index_told S p = where_holds (has_position S p) PlaceOutOfTurn (Ok (p - 1))
 
 -- What is told where a position is to have so many versions.
 abbrev pub versions_told : Setting → ℕ → ℕ → Result (Unit {0}) Refusal
-versions_told S p n = where_holds (has_position S p) PlaceOutOfTurn (where_holds (nat_le n most_versions) VersionsOutside (Ok tt))
+versions_told S p n = where_holds (has_position S p) PlaceOutOfTurn (done_if (nat_le n most_versions) VersionsOutside)
 
 -- What is told where a row is to have an amount at a position with a version.
 abbrev pub amount_told : Setting → ℕ → ℕ → ℕ → ℤ → Result (Unit {0}) Refusal
@@ -89,4 +86,4 @@ amount_told S row p v z =
     where_holds (nat_le row S.last_row) NoSuchRow
     (where_holds (has_position S p) PlaceOutOfTurn
     (where_holds (has_version v) VersionsOutside
-    (where_holds (nat_le (unsigned_abs z) greatest_amount) AmountBeyond (Ok tt))))
+    (done_if (nat_le (unsigned_abs z) greatest_amount) AmountBeyond)))

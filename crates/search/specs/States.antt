@@ -1,5 +1,5 @@
 -- A search of the rules in its tables. Assumes nothing.
-use Rattle.std.specs.Prelude.{◌≡◌, ℕ, suc, ◌+◌, Bool, cond, List, [], ◌∷◌, drop, ℤ, pos, Option, ◌==◌, slice_index_or}
+use Rattle.std.specs.Prelude.{◌≡◌, ℕ, suc, ◌+◌, Bool, if◌then◌else◌, List, [], ◌∷◌, drop, ℤ, pos, Option, ◌==◌, slice_index_or}
 use Rattle.std.specs.Option.{option_map}
 use Rattle.rules.specs.declared.lines.Line.{Line}
 use Rattle.rules.specs.Sheets.{Limits}
@@ -69,9 +69,9 @@ breaks g p l limit = ((setting g).joining l.row).worse (comes_to g p l) limit
 -- A line as it is learned at a position from a ground that stands with a version there.
 abbrev pub moved_at : Setting → ℕ → ℕ → Line → Line
 moved_at S p v l =
-    cond (suc l.level == p)
-    (record { row = l.row; level = p; constant = with_amount S l.row p v l.constant })
-    l
+    if suc l.level == p
+    then record { row = l.row; level = p; constant = with_amount S l.row p v l.constant }
+    else l
 
 -- A line as it is learned with a picked version.
 abbrev pub moved_with : Setting → Pick → Line → Line

@@ -1,5 +1,5 @@
 -- How the tables of a grid are read, and what they keep. Assumes nothing.
-use Rattle.std.specs.Prelude.{◌≡◌, ℕ, ◌-◌, ◌<◌, ◌≤◌, Bool, cond, ◌&&◌, List, [], length, get_or, ℤ, pos, nat_le, slice_index_or, slice_set, unsigned_abs}
+use Rattle.std.specs.Prelude.{◌≡◌, ℕ, ◌-◌, ◌<◌, ◌≤◌, Bool, if◌then◌else◌, ◌&&◌, List, [], length, ℤ, pos, nat_le, slice_index_or, slice_set, unsigned_abs}
 use Rattle.rules.specs.Bounds.{most_places, most_versions, most_rows, greatest_amount}
 use Rattle.search.specs.declared.position.Amounts.{Amounts}
 use Rattle.search.specs.declared.position.Position.{Position}
@@ -14,11 +14,11 @@ no_position = record { count = 0; versions = [] }
 
 -- How many versions the place at a position has.
 abbrev pub count_at : List Position → ℕ → ℕ
-count_at ps p = (get_or ps (p - 1) no_position).count
+count_at ps p = (slice_index_or ps (p - 1) no_position).count
 
 -- What stands in the table at an index of a position, of a version and of a row.
 abbrev pub slot : List Position → ℕ → ℕ → ℕ → ℤ
-slot ps i j r = slice_index_or (get_or (get_or ps i no_position).versions j no_amounts).rows r (pos 0)
+slot ps i j r = slice_index_or (slice_index_or (slice_index_or ps i no_position).versions j no_amounts).rows r (pos 0)
 
 -- The table has versions of this number.
 abbrev pub has_version : ℕ → Bool
@@ -26,19 +26,19 @@ has_version v = nat_le 1 v && nat_le v most_versions
 
 -- The amount of a row at a position with a version, and 0 outside the table.
 abbrev pub amount_at : List Position → ℕ → ℕ → ℕ → ℤ
-amount_at ps r p v = cond (has_version v) (slot ps (p - 1) (v - 1) r) (pos 0)
+amount_at ps r p v = if has_version v then slot ps (p - 1) (v - 1) r else pos 0
 
 -- No position has more versions than there may be.
 abbrev pub Counted : List Position → Type 0
-Counted ps = (i : ℕ) → i < most_places → (get_or ps i no_position).count ≤ most_versions
+Counted ps = (i : ℕ) → i < most_places → (slice_index_or ps i no_position).count ≤ most_versions
 
 -- Each position has a table of all versions that there may be.
 abbrev pub Long : List Position → Type 0
-Long ps = (i : ℕ) → i < most_places → length (get_or ps i no_position).versions ≡ most_versions
+Long ps = (i : ℕ) → i < most_places → length (slice_index_or ps i no_position).versions ≡ most_versions
 
 -- Each version has a table of all rows that there may be.
 abbrev pub Wide : List Position → Type 0
-Wide ps = (i j : ℕ) → (i < most_places) × (j < most_versions) → length (get_or (get_or ps i no_position).versions j no_amounts).rows ≡ most_rows
+Wide ps = (i j : ℕ) → (i < most_places) × (j < most_versions) → length (slice_index_or (slice_index_or ps i no_position).versions j no_amounts).rows ≡ most_rows
 
 -- No amount lies further from 0 than it may.
 abbrev pub Near : List Position → Type 0
@@ -58,4 +58,4 @@ put_count p n = record { count = n; versions = p.versions }
 
 -- The positions with another amount in a slot.
 abbrev pub put_slot : List Position → ℕ → ℕ → ℕ → ℤ → List Position
-put_slot ps i j r z = slice_set ps i (put_version (slice_index_or ps i no_position) j (put_row (slice_index_or (get_or ps i no_position).versions j no_amounts) r z))
+put_slot ps i j r z = slice_set ps i (put_version (slice_index_or ps i no_position) j (put_row (slice_index_or (slice_index_or ps i no_position).versions j no_amounts) r z))

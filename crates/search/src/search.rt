@@ -11,6 +11,7 @@ use rules::MOST_ROWS;
 #[derive(Drop)]
 pub struct Search {
     grid: Grid,
+    // Whole: callers give and take back a limit for each row that there may be.
     limits: [i64; MOST_ROWS],
     ledger: Ledger,
     part: Part,

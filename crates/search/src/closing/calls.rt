@@ -21,7 +21,6 @@ impl Closing {
     pub fn lines(&self) -> &[Line]
         ensures { result.now ≡ closing_of self.now }
     {
-        let count = self.count;
-        &self.lines[0..count]
+        &self.lines[..self.count]
     }
 }

@@ -8,6 +8,7 @@ use crate::pick::Pick;
 use crate::position::{Amounts, Position, VERSIONS};
 use rules::{GREATEST_AMOUNT, GREATEST_ROW, Kind, MOST_PLACES, MOST_ROWS, MOST_VERSIONS, Refusal};
 
+// Both by hand: of nested arrays a derived `Default` says only what each element is, and the proof of `sized` stayed open.
 // What stands in the table for a version that no amount is set for.
 const NO_AMOUNTS: Amounts = Amounts {
     rows: [0; MOST_ROWS],

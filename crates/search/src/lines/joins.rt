@@ -51,7 +51,7 @@ impl<'g, J: Joining> LineIn<'g, J> {
     }
 
     // The constant, joined with the amounts of the row at the positions above the level, from the top one down.
-    // A loop by index: versions and amounts both go by it, and a fold leaves open that the constant so far is within reach.
+    // Not a fold: that the constant so far is within reach, as its closure needs, stayed open in the proof.
     pub(crate) fn joined_above(&self, part: &Part) -> i64
         ensures is { result ≡ comes_to self.now.grid.now part.now self.now.line }
         ensures near { unsigned_abs result ≤ reach (most_places + most_places) }
@@ -93,6 +93,8 @@ impl<'g, J: Joining> LineIn<'g, J> {
     pub(crate) fn put_moved(&self, draft: &mut Draft, pick: Pick)
         ensures { let S = setting self.now.grid.now in drafted draft.new ≡ with_line S (moved_with S pick self.now.line) (drafted draft.old) }
     {
-        let _ = draft.put::<J>(self.moved(pick));
+        let Ok(()) = draft.put::<J>(self.moved(pick)) else {
+            unreachable()
+        };
     }
 }

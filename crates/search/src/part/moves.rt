@@ -26,7 +26,7 @@ impl Part {
         self.opened
     }
 
-    // The version at an index, that of position 1 being at 0; 0 past the table.
+    // The version at an index, that of position 1 being at 0; 0 past the table: the rules read a part-choice so.
     pub fn version(&self, index: usize) -> u8
         ensures { result ≡ slice_index self.now.versions index }
     {

@@ -13,7 +13,7 @@ use joining::{GreatestAtMost, SumAtLeast, SumAtMost};
 use ledger::Draft;
 use rules::Kind;
 
-// A call at the joining of a kind. A macro, since no value stands for a type: so kinds become types here alone.
+// A call at the joining of a kind. A macro, since no value stands for a type: a trait would need an impl for each use.
 macro_rules! at_joining {
     ($kind:expr, $of:ident $($call:tt)*) => {
         match $kind {

@@ -50,10 +50,7 @@ impl Search {
             grid,
             limits,
             ledger,
-            part: _,
-            best: _,
-            cap: _,
-            steps: _,
+            ..
         } = self;
         (grid, limits, ledger)
     }

@@ -24,7 +24,9 @@ fn add_ground(ledger: &mut Ledger, draft: &Draft)
     requires { room (held ledger.old) (drafted draft.now) ≡ true }
     ensures { held ledger.new ≡ held ledger.old ++ (drafted draft.now ∷ []) }
 {
-    let _ = ledger.push(draft.lines());
+    let Ok(()) = ledger.push(draft.lines()) else {
+        unreachable()
+    };
 }
 
 impl Search {
@@ -71,6 +73,7 @@ impl Search {
     }
 
     // Makes steps until the search has ended, is full, or the budget is used.
+    // Not `for`: what comes next is looked at once more after the last step, so the match would stand twice.
     fn run_on(&mut self, budget: u32) -> Ran
         requires { self.old.steps + budget ≤ most_steps }
         ensures ran { ran_of result (state_of self.new) ≡ run_from (chosen_from self.old) (job_limits self.old) budget (state_of self.old) }

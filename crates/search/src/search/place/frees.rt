@@ -9,18 +9,25 @@ use crate::search::place::Place;
 use crate::search::trial::Trial;
 
 impl<'a> Place<'a> {
+    // A version for the place.
+    pub(crate) fn pick(&self, version: u8) -> Pick
+        ensures index { result.index ≡ self.now.index }
+        ensures version { result.version ≡ version }
+    {
+        Pick {
+            index: self.index,
+            version,
+        }
+    }
+
     // The place with a version, to be tried.
     pub(crate) fn trial(&self, version: u8) -> Trial<'a>
         ensures search { result.search.now ≡ self.now.search.now }
         ensures tried { tried result ≡ version ∷ above_place self.now }
     {
-        let pick = Pick {
-            index: self.index,
-            version,
-        };
         Trial {
             search: self.search,
-            part: self.search.part.with(pick),
+            part: self.search.part.with(self.pick(version)),
         }
     }
 

@@ -29,11 +29,7 @@ impl Place<'_> {
         ensures { let S = chosen_from self.now.search.now in drafted draft.new ≡ with_lines S (map (moved_at S (self.now.index + 1) version) (pick_of self.now.search.now (above_place self.now) version)) (drafted draft.old) }
     {
         if let Some(index) = self.trial(version).first_standing() {
-            let pick = Pick {
-                index: self.index,
-                version,
-            };
-            self.put_lines(draft, pick, self.search.ground(index).lines());
+            self.put_lines(draft, self.pick(version), self.search.ground(index).lines());
         }
     }
 

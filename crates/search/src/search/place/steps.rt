@@ -6,7 +6,6 @@ ghost use Rattle.search.specs.Nexts.{outcome_of, Ready};
 ghost use Rattle.search.specs.Trials.{above_place};
 
 use crate::next::{Next, Step};
-use crate::pick::Pick;
 use crate::search::place::Place;
 
 impl Place<'_> {
@@ -16,10 +15,7 @@ impl Place<'_> {
         ensures ready { Ready self.now.search.now result }
     {
         match self.free_version() {
-            Some(version) => Next::Makes(Step::Set(Pick {
-                index: self.index,
-                version,
-            })),
+            Some(version) => Next::Makes(Step::Set(self.pick(version))),
             None => {
                 let draft = self.learn();
                 if self.search.ledger.has_room(draft.lines()) {

@@ -1,9 +1,7 @@
-use Rattle.std.proofs.Common.{◌≡◌, ℕ, ◌-◌, ◌<◌, get_or, ℤ, ap, ◌∙◌, arith, w64, to_z, of_z}
-use borrow.Author.Differences.{ints}
-use Rattle.rules.specs.Search.{go_on, stepped}
+use Rattle.std.proofs.Common.{◌≡◌, ℕ, ◌-◌, ◌<◌, get_or, ap, ◌∙◌, arith}
+use Rattle.rules.specs.Search.{go_on}
 use Rattle.search.specs.Parts.{versions_of}
 use Rattle.search.specs.States.{chosen_from, job_limits, state_of, above}
-use Rattle.search.specs.Nexts.{best_at}
 use Rattle.search.proofs.Parts.{open_part, part_none, part_head, part_above}
 use Rattle.search.proofs.NextSteps.{next_ended, next_place, next_best, next_open}
 use Rattle.search.proofs.search.Search.next.Goals as goal
@@ -26,8 +24,7 @@ pub returns-in-None-clause-outcome : goal.returns-in-None-clause-outcome
 returns-in-None-clause-outcome c =
     let s = c.args.self.now in
     let none : s.part.opened ≡ 0 = omega (arith, c.opened-opened.ensures) in
-    let out : to_z w64 (of_z w64 c.price.result) ≡ c.price.result = omega (arith, ints) in
-    ap (λ (z : ℤ). stepped (best_at (state_of s) z)) (out ∙ c.price.ensures.is) ∙ next_best (chosen_from s) (job_limits s) (state_of s) c.in-None.ensures.first (open_part s ∙ none)
+    next_best (chosen_from s) (job_limits s) (state_of s) c.in-None.ensures.first (open_part s ∙ none)
 
 pub returns-in-None-2-clause-outcome : goal.returns-in-None-2-clause-outcome
 returns-in-None-2-clause-outcome c =
