@@ -26,7 +26,9 @@ pub(crate) struct LadderBody {
     last_row: u8,
     pub(crate) place: u8,
     pub(crate) count: u8,
+    // Whole: a ladder takes a rung for every row that there may be.
     pub(crate) rungs: [Rung; MOST_ROWS],
+    // A bound of three owners (sheet, body, loop): a struct for it is no plainer than the clause.
     ghost few: { last_row ≤ greatest_row },
 }
 
@@ -82,7 +84,7 @@ impl LadderBody {
     pub(crate) fn check(&self, places: u8, found: u8, at: u16) -> Result<(), Fault>
         ensures { result ≡ after_tests (first_fault (ladder_tests places self.now.last_row found self.now.place self.now.count (rung_amount (rungs_of (suc self.now.last_row) self.now.rungs)) at)) tt }
     {
-        if u16::from(self.place) != u16::from(found) + 1 || self.place > places {
+        if Some(self.place) != found.checked_add(1) || self.place > places {
             return Err(fault_at(Refusal::PlaceOutOfTurn, at));
         }
         if !(1..=MOST_VERSIONS).contains(&self.count) {

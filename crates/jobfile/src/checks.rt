@@ -21,9 +21,7 @@ pub(crate) fn fault_at(refusal: Refusal, at: u16) -> Fault
         layer: refusal.layer(),
         number: refusal.number(),
         byte: at,
-        place: 0,
-        version: 0,
-        row: 0,
+        ..Fault::default()
     }
 }
 
@@ -121,7 +119,9 @@ pub(crate) fn check_version(
     ensures { result ≡ after_tests (first_fault (version_tests sheet.now.places sheet.now.last_row listed has (slice_index body.now 0) (amount_in sheet.now.last_row body.now) at)) tt }
 {
     let place = body[0];
-    if !(1..=sheet.places).contains(&place) || place < listed || place > listed.saturating_add(1) {
+    if !(1..=sheet.places).contains(&place)
+        || !(listed..=listed.saturating_add(1)).contains(&place)
+    {
         return Err(fault_at(Refusal::PlaceOutOfTurn, at));
     }
     if has >= MOST_VERSIONS {
