@@ -1,7 +1,7 @@
 -- Numbers in four bytes, there and back. Assumes nothing.
 use Rattle.std.proofs.Common.{◌≡◌, ℕ, zero, suc, ◌+◌, ◌*◌, ◌/◌, ◌%◌, ◌^◌, ◌<◌, ◌≤◌, List, [], ◌∷◌, ◌++◌, length, get_or, take, drop, ℤ, pos, negsuc, sym, refl, ap, ◌∙◌, arith, get_or-drop, get_or-take, w32, SFits, to_z, of_z}
 use mir.ValLaws.{to_z-Fits}
-use Rattle.std.proofs.ByRecursion.{All-drop}
+use Rattle.std.proofs.lemmas.List.Elements.{All-drop, All-from_recursion, All-take, recursion_from_All}
 use Rattle.std.proofs.lemmas.Int.{to_z-of_z, of_z-to_z}
 use Rattle.std.specs.List.{AllByRecursion}
 use Rattle.rules.specs.Numbers.{number_at}
@@ -9,9 +9,19 @@ use Rattle.jobfile.specs.Reading.{amount_in, numbers_in, rungs_in}
 use Rattle.jobfile.specs.Writing.{four, fours, rung_numbers}
 use Rattle.jobfile.specs.Stated.{RungStated}
 
+abbrev byte : ℕ → Type 0
+byte b = b < 2 ^ 8
+
 -- each is a byte
 abbrev pub Bytes : List ℕ → Type 0
-Bytes bs = AllByRecursion (λ b. b < 2 ^ 8) bs
+Bytes bs = AllByRecursion byte bs
+
+-- so are those of a part
+pub bytes_take : (n : ℕ) (bs : List ℕ) → Bytes bs → Bytes (take n bs)
+bytes_take n bs h = recursion_from_All byte (take n bs) (All-take byte n bs (All-from_recursion byte bs h))
+
+pub bytes_drop : (n : ℕ) (bs : List ℕ) → Bytes bs → Bytes (drop n bs)
+bytes_drop n bs h = recursion_from_All byte (drop n bs) (All-drop byte n bs (All-from_recursion byte bs h))
 
 fits_below : (z : ℤ) → SFits w32 z → of_z w32 z < 2 ^ 32
 fits_below (pos n) f = omega (arith, f.sfits)
@@ -113,7 +123,7 @@ length_rung_numbers [] = refl
 length_rung_numbers (g ∷ gs) = omega (arith, length_rung_numbers gs)
 
 -- what is read of bytes fits 32 bits
-byte_at : (bs : List ℕ) → Bytes bs → (i : ℕ) → get_or bs i 0 < 256
+pub byte_at : (bs : List ℕ) → Bytes bs → (i : ℕ) → get_or bs i 0 < 256
 byte_at [] h i = omega arith
 byte_at (b ∷ bs) h zero = h.0
 byte_at (b ∷ bs) h (suc i) = byte_at bs h.1 i
@@ -124,4 +134,4 @@ number_fits bs i h = to_z-Fits w32 _ record { fits = omega (arith, byte_at bs h 
 pub numbers_fit : (k : ℕ) (bs : List ℕ) → Bytes bs → AllByRecursion (SFits w32) (numbers_in k bs)
 unfolding numbers_in
 numbers_fit zero bs h = tt
-numbers_fit (suc k) bs h = (number_fits bs 0 h, numbers_fit k (drop 4 bs) (All-drop (λ b. b < 2 ^ 8) 4 bs h))
+numbers_fit (suc k) bs h = (number_fits bs 0 h, numbers_fit k (drop 4 bs) (bytes_drop 4 bs h))

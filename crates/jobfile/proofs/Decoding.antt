@@ -1,14 +1,13 @@
 -- What a body says, and the body that says it. Assumes nothing.
-use Rattle.std.proofs.Common.{◌≡◌, ℕ, suc, ◌+◌, ◌*◌, ◌^◌, ◌<◌, List, [], ◌∷◌, ◌++◌, length, get_or, drop, ℤ, sym, refl, ap, ◌∙◌, subst, append-nil, arith, w32, SFits}
+use Rattle.std.proofs.Common.{◌≡◌, ℕ, suc, ◌+◌, ◌*◌, List, [], ◌∷◌, ◌++◌, length, get_or, drop, ℤ, sym, refl, ap, ◌∙◌, subst, append-nil, arith, w32, SFits}
 use Rattle.std.specs.List.{AllByRecursion}
-use Rattle.std.proofs.ByRecursion.{All-drop}
 use Rattle.jobfile.specs.declared.fields.Field.{Field}
 use Rattle.jobfile.specs.declared.fields.Field.TheVariants as field
 use Rattle.jobfile.specs.Stated.{Stated}
 use Rattle.rules.specs.Numbers.{number_at}
 use Rattle.jobfile.specs.Writing.{fours, rung_numbers, Entry, sheet, row, order, version, ladder, call, field_of, singles, numbers, body}
 use Rattle.jobfile.specs.Reading.{numbers_in, rungs_in, field_length, decode}
-use Rattle.jobfile.proofs.Codec.{Bytes, number_four, number_drop, fours_back, fours_there, length_fours, length_numbers, rungs_there, rungs_back, length_rungs, length_rung_numbers, number_fits, numbers_fit}
+use Rattle.jobfile.proofs.Codec.{Bytes, byte_at, bytes_drop, number_four, number_drop, fours_back, fours_there, length_fours, length_numbers, rungs_there, rungs_back, length_rungs, length_rung_numbers, number_fits, numbers_fit}
 
 -- an entry has as many numbers as the rows, and an order as many as the places
 abbrev pub Shaped : Stated → Entry → Type 0
@@ -86,24 +85,15 @@ shaped_decoded j field.Version bs e = length_numbers (suc j.last_row) (drop 1 bs
 shaped_decoded j field.Ladder bs e = length_rungs (suc j.last_row) _ (length_numbers (2 * suc j.last_row) (drop 2 bs))
 shaped_decoded j field.Call bs e = tt
 
--- a byte of the front
-first_byte : (bs : List ℕ) → Bytes bs → get_or bs 0 0 < 2 ^ 8
-first_byte [] h = omega arith
-first_byte (b ∷ bs) h = h.0
-
-second_byte : (bs : List ℕ) → Bytes bs → get_or bs 1 0 < 2 ^ 8
-second_byte [] h = omega arith
-second_byte (b ∷ bs) h = first_byte bs h.1
-
 pub fits_decoded : (j : Stated) (f : Field) (bs : List ℕ) → Bytes bs → Fits (decode j f bs)
-fits_decoded j field.Sheet bs h = record { bytes = (first_byte bs h, (second_byte bs h, tt)); long = (number_fits bs 2 h, tt) }
-fits_decoded j field.Row bs h = record { bytes = (first_byte bs h, tt); long = (number_fits bs 1 h, tt) }
+fits_decoded j field.Sheet bs h = record { bytes = (byte_at bs h 0, (byte_at bs h 1, tt)); long = (number_fits bs 2 h, tt) }
+fits_decoded j field.Row bs h = record { bytes = (byte_at bs h 0, tt); long = (number_fits bs 1 h, tt) }
 fits_decoded j field.Order bs h = record { bytes = h; long = tt }
-fits_decoded j field.Version bs h = record { bytes = (first_byte bs h, tt); long = numbers_fit (suc j.last_row) (drop 1 bs) (All-drop (λ b. b < 2 ^ 8) 1 bs h) }
+fits_decoded j field.Version bs h = record { bytes = (byte_at bs h 0, tt); long = numbers_fit (suc j.last_row) (drop 1 bs) (bytes_drop 1 bs h) }
 fits_decoded j field.Ladder bs h =
     let k = 2 * suc j.last_row in
     record {
-      bytes = (first_byte bs h, (second_byte bs h, tt));
-      long = subst (AllByRecursion (SFits w32)) (sym (rungs_back (suc j.last_row) (numbers_in k (drop 2 bs)) (length_numbers k (drop 2 bs)))) (numbers_fit k (drop 2 bs) (All-drop (λ b. b < 2 ^ 8) 2 bs h));
+      bytes = (byte_at bs h 0, (byte_at bs h 1, tt));
+      long = subst (AllByRecursion (SFits w32)) (sym (rungs_back (suc j.last_row) (numbers_in k (drop 2 bs)) (length_numbers k (drop 2 bs)))) (numbers_fit k (drop 2 bs) (bytes_drop 2 bs h));
     }
-fits_decoded j field.Call bs h = record { bytes = (first_byte bs h, (second_byte bs h, tt)); long = (number_fits bs 2 h, tt) }
+fits_decoded j field.Call bs h = record { bytes = (byte_at bs h 0, (byte_at bs h 1, tt)); long = (number_fits bs 2 h, tt) }

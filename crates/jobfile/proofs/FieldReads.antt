@@ -1,7 +1,6 @@
 -- A field is read exactly where it is the writing of an entry that may come there. Assumes nothing.
-use Rattle.std.proofs.Common.{◌≡◌, ℕ, suc, ◌+◌, ◌*◌, ◌/◌, ◌%◌, ◌^◌, ◌<◌, ◌≤◌, Bool, true, false, cond, eqb, leb, List, [], ◌∷◌, ◌++◌, length, take, Some, None, Ok, Err, Option, Result, sym, refl, ap, ◌∙◌, ap₂, arith, length-append, length-take}
+use Rattle.std.proofs.Common.{◌≡◌, ℕ, suc, ◌+◌, ◌*◌, ◌/◌, ◌%◌, ◌≤◌, Bool, true, false, cond, eqb, leb, List, [], ◌∷◌, ◌++◌, length, take, Some, None, Ok, Err, Option, Result, sym, refl, ap, ◌∙◌, ap₂, arith, length-append, length-take}
 use Rattle.std.specs.List.{AllByRecursion}
-use Rattle.std.proofs.ByRecursion.{All-take}
 use Rattle.std.proofs.lemmas.List.{take_at}
 use Rattle.std.proofs.lemmas.Bool.{eqb-true, eq-eqb, leb-true, le-leb, cond-true}
 use Rattle.rules.specs.declared.refusals.Fault.{Fault}
@@ -11,7 +10,7 @@ use Rattle.jobfile.specs.Writing.{Entry, field_of, tag_of, body, field_bytes}
 use Rattle.jobfile.specs.Reading.{Reading, Announced, next, announced, FieldRead, field_length, decode, content_tests, with_entry, after_tests, read_rest, read_announced, read_field}
 use Rattle.jobfile.proofs.TestLoops.{passed_tests}
 use Rattle.jobfile.proofs.Announcing.{announced_as}
-use Rattle.jobfile.proofs.Codec.{Bytes}
+use Rattle.jobfile.proofs.Codec.{Bytes, bytes_take}
 use Rattle.jobfile.proofs.Decoding.{Shaped, Fits, field_decoded, body_decoded, decoded_body, length_body, shaped_decoded, fits_decoded}
 
 -- an entry may come at a byte, and leads from one reading to another
@@ -81,7 +80,7 @@ module _ (at : ℕ) (s : Reading) (a b c : ℕ) (tail : List ℕ) (small : Bytes
   says p said fit long =
       let e : Entry = decode s.job p.field (take len tail) in
       let cut : length (take len tail) ≡ len = length-take len tail ∙ omega (arith, long) in
-      let small_body : Bytes (take len tail) = All-take (λ x. x < 2 ^ 8) len tail small.1.1.1 in
+      let small_body : Bytes (take len tail) = bytes_take len tail small.1.1.1 in
       let is : body e ≡ take len tail = body_decoded s.job p.field (take len tail) small_body (cut ∙ fit) in
       let whole : length (body e) ≡ len = ap length is ∙ cut in
       let same : field_of e ≡ p.field = field_decoded s.job p.field (take len tail) in

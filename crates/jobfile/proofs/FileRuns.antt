@@ -1,13 +1,12 @@
 -- The fields of a file one after the other. Assumes nothing.
-use Rattle.std.proofs.Common.{◌≡◌, ℕ, zero, suc, ◌+◌, ◌^◌, ◌<◌, ◌≤◌, eqb, List, [], ◌∷◌, ◌++◌, length, drop, Ok, Err, Result, sym, refl, ap, ◌∙◌, subst, arith, length-append, length-drop}
-use Rattle.std.proofs.ByRecursion.{All-drop}
+use Rattle.std.proofs.Common.{◌≡◌, ℕ, zero, suc, ◌+◌, ◌≤◌, eqb, List, [], ◌∷◌, ◌++◌, length, drop, Ok, Err, Result, sym, refl, ap, ◌∙◌, subst, arith, length-append, length-drop}
 use Rattle.std.proofs.lemmas.List.{drop_at, take-append-drop}
 use Rattle.std.proofs.lemmas.Bool.{eqb-true, ne_eqb, cond-true, cond-false}
 use Rattle.rules.specs.declared.refusals.Fault.{Fault}
 use Rattle.rules.proofs.Bools.{split}
 use Rattle.jobfile.specs.Writing.{Entry, field_bytes, bytes_of}
 use Rattle.jobfile.specs.Reading.{Reading, FieldRead, and_then, read_field, read_fields}
-use Rattle.jobfile.proofs.Codec.{Bytes}
+use Rattle.jobfile.proofs.Codec.{Bytes, bytes_drop}
 use Rattle.jobfile.proofs.FieldReads.{Takes, refused_ok, entry_reads, field_reads}
 
 -- entries lead from one reading to another
@@ -52,7 +51,7 @@ read_runs (suc most) at s t bs small l h =
     let r : FieldRead = p.0 in
     let f = field_reads at s bs r small p.1 in
     let left : length (drop r.size bs) ≤ most = omega (arith, length-drop r.size bs, f.size) in
-    let g = read_runs most (at + r.size) r.reading t (drop r.size bs) (All-drop (λ b. b < 2 ^ 8) r.size bs small) left p.2 in
+    let g = read_runs most (at + r.size) r.reading t (drop r.size bs) (bytes_drop r.size bs small) left p.2 in
     record {
       entries = f.entry ∷ g.entries;
       runs = go {es = g.entries} f.takes (subst (λ n. Runs (at + n) r.reading g.entries t) f.size g.runs);

@@ -2,7 +2,7 @@
 use Rattle.std.proofs.Common.{◌≡◌, ℕ, zero, suc, ◌+◌, ◌-◌, ◌<◌, ◌≤◌, true, false, List, [], ◌∷◌, ◌++◌, map, length, get_or, take, drop, ℤ, pos, nat_abs, is_some, Some, None, Option, sym, refl, ap, ◌∙◌, ap₂, inl, inr, append_assoc, append-nil, arith, length-append, length-take}
 use Rattle.std.specs.List.{AllByRecursion}
 use Rattle.std.proofs.ByRecursion.{All-append, All-take, All-from_get_or}
-use Rattle.std.proofs.lemmas.List.{take-append-drop, take_all, get_or_past, drop_all, drop_more}
+use Rattle.std.proofs.lemmas.List.{map_push, take-append-drop, take_all, get_or_past, drop_all, drop_more}
 use Rattle.std.proofs.lemmas.Bool.{and_parts, eqb-true, leb-true, ltb-true, cases_lt}
 use Rattle.rules.specs.Bounds.{most_versions, greatest_amount}
 use Rattle.rules.specs.declared.refusals.Refusal.TheVariants.{AmountBeyond}
@@ -22,10 +22,6 @@ use Rattle.jobfile.specs.Reading.{held, row_amount_tests, content_tests, with_en
 use Rattle.jobfile.specs.Refusing.{Late}
 use Rattle.jobfile.proofs.Decoding.{Fits}
 use Rattle.jobfile.proofs.AmountTests.{amounts_within}
-
-pub map_push : {X Y : Type 0} (f : X → Y) (xs : List X) (x : X) → map f (xs ++ (x ∷ [])) ≡ map f xs ++ (f x ∷ [])
-map_push f [] x = refl
-map_push f (y ∷ xs) x = ap (λ t. f y ∷ t) (map_push f xs x)
 
 -- one ladder more at the end
 ladders_push : (q : ℕ) (ls : List LadderStated) (l : LadderStated) → ladder_entries q (ls ++ (l ∷ [])) ≡ ladder_entries q ls ++ (ladder (q + length ls) l ∷ [])

@@ -2,6 +2,7 @@
 use Rattle.std.proofs.Common.{◌≡◌, ℕ, ◌<◌, Bool, true, false, cond, eqb, ltb, List, [], ◌∷◌, ◌++◌, length, None, sym, refl, ap, ◌∙◌, subst, append_assoc, append-nil, arith, length-append}
 use Rattle.std.specs.List.{AllByRecursion}
 use Rattle.std.proofs.ByRecursion.{All-append}
+use Rattle.std.proofs.lemmas.List.{map_push}
 use Rattle.std.proofs.lemmas.Bool.{and_parts, eqb-true, leb-true, ltb-true}
 use Rattle.rules.proofs.TestLists.{Passed, test_passed, all_contained}
 use Rattle.rules.proofs.KindNumbers.{kind_there}
@@ -16,7 +17,7 @@ use Rattle.jobfile.proofs.Decoding.{Shaped, Fits}
 use Rattle.jobfile.proofs.FieldReads.{Takes}
 use Rattle.jobfile.proofs.FileRuns.{Runs, stop, go}
 use Rattle.jobfile.specs.Refusing.{Front, so_far}
-use Rattle.jobfile.proofs.Fronts.{map_push, late_version, entries_version, late_ladder, entries_ladder, late_call, entries_call}
+use Rattle.jobfile.proofs.Fronts.{late_version, entries_version, late_ladder, entries_ladder, late_call, entries_call}
 
 -- the job with one field more is the front of a valid job, and its fields are one more
 abbrev Moved : Section → Stated → Entry → Section → Type 0

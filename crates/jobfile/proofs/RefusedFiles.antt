@@ -1,6 +1,5 @@
 -- Every refusal says what it should. Assumes nothing.
-use Rattle.std.proofs.Common.{◌≡◌, ℕ, zero, suc, ◌+◌, ◌*◌, ◌^◌, ◌<◌, ◌≤◌, eqb, leb, List, [], ◌∷◌, ◌++◌, length, take, drop, Some, None, Ok, Err, Option, Result, sym, refl, ap, ◌∙◌, subst, append_assoc, append-nil, arith, length-append, length-drop}
-use Rattle.std.proofs.ByRecursion.{All-drop}
+use Rattle.std.proofs.Common.{◌≡◌, ℕ, zero, suc, ◌+◌, ◌*◌, ◌≤◌, eqb, leb, List, [], ◌∷◌, ◌++◌, length, take, drop, Some, None, Ok, Err, Option, Result, sym, refl, ap, ◌∙◌, subst, append_assoc, append-nil, arith, length-append, length-drop}
 use Rattle.std.proofs.lemmas.List.{take-append-drop}
 use Rattle.std.proofs.lemmas.Bool.{leb-true, leb-false, le-leb, eqb-true, eqb-false, cond-true, cond-false}
 use Rattle.rules.specs.declared.refusals.Fault.{Fault}
@@ -14,7 +13,7 @@ use Rattle.jobfile.specs.Reading.{Reading, fresh, Announced, next, announced, fi
 use Rattle.jobfile.specs.Refusing.{FirstFailing, FieldFails, head_cut, tag_wrong, length_wrong, body_cut, contents_wrong, Refused, too_long, at_field, no_order, places_missing}
 use Rattle.jobfile.specs.Theorems.{RefusedLaw}
 use Rattle.jobfile.proofs.TestLoops.{failed_tests}
-use Rattle.jobfile.proofs.Codec.{Bytes}
+use Rattle.jobfile.proofs.Codec.{Bytes, bytes_drop}
 use Rattle.jobfile.proofs.FieldReads.{refused_ok, says, field_reads}
 use Rattle.jobfile.proofs.FileRuns.{read_runs}
 use Rattle.jobfile.proofs.Moves.{FrontOf, fields_of, takes_front, runs_front}
@@ -94,7 +93,7 @@ fields_fail (suc most) s f bs front small l at here h =
         ∙ ap (λ x. bytes_of (fields_of s) ++ x) (ap (λ x. x ++ drop r.size bs) (sym w.written) ∙ take-append-drop r.size bs) in
         let moved : at + r.size ≡ length (bytes_of (fields_of t)) = omega (arith, here, w.size, ap length more, length-append (bytes_of (fields_of s)) (field_bytes w.entry)) in
         subst (λ xs. Refused xs f) same
-        (later t (drop r.size bs) m.0 (All-drop (λ x. x < 2 ^ 8) r.size bs small) (omega (arith, length-drop r.size bs, w.size)) (at + r.size) moved k)
+        (later t (drop r.size bs) m.0 (bytes_drop r.size bs small) (omega (arith, length-drop r.size bs, w.size)) (at + r.size) moved k)
 
 end_fails : (s : Reading) (f : Fault) (file : List ℕ) → FrontOf s → file ≡ bytes_of (fields_of s) → finish s (length file) ≡ Err f → Refused file f
 end_fails s f file front e h =

@@ -1,8 +1,9 @@
 -- The calls in a table. Assumes nothing.
-use Rattle.std.specs.Prelude.{List, length, Result, Ok, Err, nat_lt, if◌then◌else◌}
+use Rattle.std.specs.Prelude.{List, length, Result, nat_lt}
 use Rattle.rules.specs.declared.records.Request.{Request}
 use Rattle.rules.specs.declared.refusals.Refusal.{Refusal}
 use Rattle.rules.specs.declared.refusals.Refusal.TheVariants.{NoCall}
+use Rattle.rules.specs.Refusals.{done_if}
 use Rattle.jobfile.specs.Bounds.{most_calls}
 use Rattle.jobfile.specs.declared.calls.Calls.{Calls}
 
@@ -12,4 +13,4 @@ calls_of c = c.requests.items
 
 -- Behind these calls there is room for one more, or it is refused.
 abbrev pub room_for_call : List Request → Result (Unit {0}) Refusal
-room_for_call cs = if nat_lt (length cs) most_calls then Ok tt else Err NoCall
+room_for_call cs = done_if (nat_lt (length cs) most_calls) NoCall

@@ -7,6 +7,7 @@ pub mod Amounts
 pub mod CallTables
 pub mod Begun
 pub mod InMemory
+pub mod Bodies
 pub mod Sound
 pub mod Readers
 pub mod Refusing

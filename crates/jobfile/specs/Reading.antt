@@ -185,6 +185,10 @@ abbrev pub after_tests : {X : Type 0} → Option Fault → X → Result X Fault
 after_tests (Some f) x = Err f
 after_tests None x = Ok x
 
+-- That tests pass, or the first fault among them.
+abbrev pub checked : List (Option Fault) → Result (Unit {0}) Fault
+checked ts = after_tests (first_fault ts) tt
+
 -- What follows a step that may be refused.
 abbrev pub and_then : {X Y : Type 0} → Result X Fault → (X → Result Y Fault) → Result Y Fault
 and_then (Ok x) f = f x

@@ -1,9 +1,9 @@
 // What the bodies of fields say.
 ghost use Rattle.std.specs.Prelude.{◌≡◌, ℕ, suc, ◌*◌, ◌≤◌, length, drop, slice_index};
 ghost use Rattle.rules.specs.Bounds.{greatest_row};
-ghost use Rattle.rules.specs.Openings.{each_to, first_fault};
+ghost use Rattle.rules.specs.Openings.{each_to};
 ghost use Rattle.jobfile.specs.InMemory.{rungs_of};
-ghost use Rattle.jobfile.specs.Reading.{after_tests, amount_fault, ladder_tests, numbers_in, row_amount_tests, rung_amount, rungs_in};
+ghost use Rattle.jobfile.specs.Reading.{amount_fault, checked, ladder_tests, numbers_in, row_amount_tests, rungs_in};
 
 use crate::checks::{Spot, check_amounts, fault_at};
 use catalogue::Rung;
@@ -26,11 +26,15 @@ pub(crate) struct LadderBody {
     last_row: u8,
     pub(crate) place: u8,
     pub(crate) count: u8,
+    // Whole: a ladder takes a rung for every row that there may be.
     pub(crate) rungs: [Rung; MOST_ROWS],
+    // A bound of three owners (sheet, body, loop): a struct for it is no plainer than the clause.
     ghost few: { last_row ≤ greatest_row },
 }
 
 impl LadderBody {
+    ghost use Rattle.jobfile.specs.Bodies.{amount_of};
+
     // What a body says.
     pub(crate) fn new(last_row: u8, body: &[u8]) -> LadderBody
         requires few { last_row ≤ greatest_row }
@@ -51,14 +55,14 @@ impl LadderBody {
     // The amount of a row in a version.
     fn amount(&self, row: u8, version: u8) -> i64
         requires { row ≤ self.now.last_row }
-        ensures { result ≡ rung_amount (rungs_of (suc self.now.last_row) self.now.rungs) version row }
+        ensures { result ≡ amount_of self.now version row }
     {
         self.rungs[usize::from(row)].at(version)
     }
 
     // The amounts of a version.
     fn check_version(&self, version: u8, at: u16) -> Result<(), Fault>
-        ensures { result ≡ after_tests (first_fault (row_amount_tests self.now.last_row (rung_amount (rungs_of (suc self.now.last_row) self.now.rungs) version) (amount_fault at self.now.place version))) tt }
+        ensures { result ≡ checked (row_amount_tests self.now.last_row (amount_of self.now version) (amount_fault at self.now.place version)) }
     {
         let spot = Spot {
             byte: at,
@@ -70,7 +74,7 @@ impl LadderBody {
 
     // The amounts of every version.
     fn check_versions(&self, at: u16) -> Result<(), Fault>
-        ensures { result ≡ after_tests (first_fault (each_to (λ v. row_amount_tests self.now.last_row (rung_amount (rungs_of (suc self.now.last_row) self.now.rungs) v) (amount_fault at self.now.place v)) self.now.count)) tt }
+        ensures { result ≡ checked (each_to (λ v. row_amount_tests self.now.last_row (amount_of self.now v) (amount_fault at self.now.place v)) self.now.count) }
     {
         for version in 1..=self.count {
             self.check_version(version, at)?;
@@ -80,9 +84,9 @@ impl LadderBody {
 
     // The ladder in a job for so many places, after those that are found so far.
     pub(crate) fn check(&self, places: u8, found: u8, at: u16) -> Result<(), Fault>
-        ensures { result ≡ after_tests (first_fault (ladder_tests places self.now.last_row found self.now.place self.now.count (rung_amount (rungs_of (suc self.now.last_row) self.now.rungs)) at)) tt }
+        ensures { result ≡ checked (ladder_tests places self.now.last_row found self.now.place self.now.count (amount_of self.now) at) }
     {
-        if u16::from(self.place) != u16::from(found) + 1 || self.place > places {
+        if Some(self.place) != found.checked_add(1) || self.place > places {
             return Err(fault_at(Refusal::PlaceOutOfTurn, at));
         }
         if !(1..=MOST_VERSIONS).contains(&self.count) {

@@ -1,10 +1,10 @@
 // The tests of what a field says, each with the fault that it gives.
 ghost use Rattle.std.specs.Prelude.{◌≡◌, ℕ, ◌+◌, ◌*◌, ◌≤◌, ℤ, length, is_some, slice_index};
 ghost use Rattle.rules.specs.Bounds.{greatest_row};
-ghost use Rattle.rules.specs.Openings.{first_fault, contains_all};
+ghost use Rattle.rules.specs.Openings.{contains_all};
 ghost use Rattle.rules.specs.Refusals.{fault_in};
 ghost use Rattle.rules.specs.Records.{asked};
-ghost use Rattle.jobfile.specs.Reading.{after_tests, amount_fault, amount_in, row_amount_tests, sheet_tests, row_tests, order_tests, version_tests, call_tests};
+ghost use Rattle.jobfile.specs.Reading.{amount_fault, amount_in, checked, row_amount_tests, sheet_tests, row_tests, order_tests, version_tests, call_tests};
 ghost use Rattle.jobfile.specs.Amounts.{Gives};
 
 use crate::bounds::MOST_CALLS;
@@ -21,15 +21,13 @@ pub(crate) fn fault_at(refusal: Refusal, at: u16) -> Fault
         layer: refusal.layer(),
         number: refusal.number(),
         byte: at,
-        place: 0,
-        version: 0,
-        row: 0,
+        ..Fault::default()
     }
 }
 
 // A sheet's counts and cap.
 pub(crate) fn check_sheet(n: u8, m: u8, cap: i32, at: u16) -> Result<(), Fault>
-    ensures { result ≡ after_tests (first_fault (sheet_tests n m «cap» at)) tt }
+    ensures { result ≡ checked (sheet_tests n m «cap» at) }
 {
     if !(1..=MOST_PLACES).contains(&usize::from(n)) || usize::from(m) > GREATEST_ROW {
         return Err(fault_at(Refusal::CountOutside, at));
@@ -42,7 +40,7 @@ pub(crate) fn check_sheet(n: u8, m: u8, cap: i32, at: u16) -> Result<(), Fault>
 
 // A row's kind and limit.
 pub(crate) fn check_row(row: Row, at: u16) -> Result<(), Fault>
-    ensures { result ≡ after_tests (first_fault (row_tests row.kind row.limit at)) tt }
+    ensures { result ≡ checked (row_tests row.kind row.limit at) }
 {
     Kind::try_from(row.kind).map_err(|refusal| fault_at(refusal, at))?;
     if row.limit.unsigned_abs() > GREATEST_LIMIT {
@@ -60,7 +58,7 @@ fn lists_each(n: u8, order: &[u8]) -> bool
 
 // The order of so many places.
 pub(crate) fn check_order(n: u8, order: &[u8], at: u16) -> Result<(), Fault>
-    ensures { result ≡ after_tests (first_fault (order_tests n order.now at)) tt }
+    ensures { result ≡ checked (order_tests n order.now at) }
 {
     if !lists_each(n, order) {
         return Err(fault_at(Refusal::OrderNotOnce, at));
@@ -98,7 +96,7 @@ pub(crate) fn check_amounts<A: Fn(u8) -> i64>(
 ) -> Result<(), Fault>
     requires few { last_row ≤ greatest_row }
     requires callable { (row : ℕ) → row ≤ last_row → A.pre amount row }
-    ensures { (amounts : ℕ → ℤ) → Gives (A.post amount) last_row amounts → result ≡ after_tests (first_fault (row_amount_tests last_row amounts (amount_fault spot.byte spot.place spot.version))) tt }
+    ensures { (amounts : ℕ → ℤ) → Gives (A.post amount) last_row amounts → result ≡ checked (row_amount_tests last_row amounts (amount_fault spot.byte spot.place spot.version)) }
 {
     for row in 0..=last_row {
         if amount(row).unsigned_abs() > GREATEST_AMOUNT {
@@ -118,10 +116,12 @@ pub(crate) fn check_version(
 ) -> Result<(), Fault>
     requires few { sheet.now.last_row ≤ greatest_row }
     requires length { length body.now ≡ 5 + 4 * sheet.now.last_row }
-    ensures { result ≡ after_tests (first_fault (version_tests sheet.now.places sheet.now.last_row listed has (slice_index body.now 0) (amount_in sheet.now.last_row body.now) at)) tt }
+    ensures { result ≡ checked (version_tests sheet.now.places sheet.now.last_row listed has (slice_index body.now 0) (amount_in sheet.now.last_row body.now) at) }
 {
     let place = body[0];
-    if !(1..=sheet.places).contains(&place) || place < listed || place > listed.saturating_add(1) {
+    if !(1..=sheet.places).contains(&place)
+        || !(listed..=listed.saturating_add(1)).contains(&place)
+    {
         return Err(fault_at(Refusal::PlaceOutOfTurn, at));
     }
     if has >= MOST_VERSIONS {
@@ -163,7 +163,7 @@ fn is_call(request: Request) -> bool
 
 // A call after so many calls.
 pub(crate) fn check_call(calls: usize, request: Request, at: u16) -> Result<(), Fault>
-    ensures { result ≡ after_tests (first_fault (call_tests calls request at)) tt }
+    ensures { result ≡ checked (call_tests calls request at) }
 {
     if calls >= MOST_CALLS || !is_call(request) {
         return Err(fault_at(Refusal::NoCall, at));

@@ -1,7 +1,7 @@
 // The fields of a file, and the sections in which they come.
 
 // What a field holds.
-#[derive(Clone, Copy)]
+#[derive(Clone, Copy, Debug, PartialEq, Eq)]
 pub enum Field {
     Sheet,
     Row,
@@ -12,7 +12,7 @@ pub enum Field {
 }
 
 // How far a file has been read: which fields may come next.
-#[derive(Clone, Copy)]
+#[derive(Clone, Copy, Debug, PartialEq, Eq)]
 pub enum Section {
     // Nothing yet: the sheet comes.
     Start,

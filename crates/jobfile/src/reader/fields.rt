@@ -3,7 +3,7 @@ ghost use Rattle.jobfile.specs.declared.fields.Field.TheVariants as field;
 
 use crate::checks::{check_call, check_order, check_row, check_sheet};
 use crate::job::Job;
-use crate::reader::Reader;
+use crate::reader::{Reader, behind};
 use rules::{Fault, Request, Row, number_at};
 
 impl Reader<'_> {
@@ -18,7 +18,7 @@ impl Reader<'_> {
         check_sheet(body[0], body[1], cap, self.at)?;
         self.rows = 0;
         self.job = Job::begun(self.file.len(), body[0], body[1], cap);
-        self.at += 3 + body.len() as u16;
+        self.at = behind(self.at, body);
         Ok(())
     }
 
@@ -34,7 +34,7 @@ impl Reader<'_> {
         check_row(row, self.at)?;
         self.job.sheet.rows[usize::from(self.rows)] = row;
         self.rows += 1;
-        self.at += 3 + body.len() as u16;
+        self.at = behind(self.at, body);
         Ok(())
     }
 
@@ -44,8 +44,9 @@ impl Reader<'_> {
         ensures { BodyRead self.old field.Order body.now result self.new }
     {
         check_order(self.job.sheet.places, body, self.at)?;
+        // `0..`: of a reader's own table the check does not cover `[..n]` yet.
         self.job.sheet.order[0..body.len()].copy_from_slice(body);
-        self.at += 3 + body.len() as u16;
+        self.at = behind(self.at, body);
         Ok(())
     }
 
@@ -63,7 +64,7 @@ impl Reader<'_> {
         let Ok(()) = self.job.calls.push(request) else {
             unreachable()
         };
-        self.at += 3 + body.len() as u16;
+        self.at = behind(self.at, body);
         Ok(())
     }
 }

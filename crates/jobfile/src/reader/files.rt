@@ -40,6 +40,7 @@ impl Reader<'_> {
         ensures fields { told result (front_of self.new) ≡ read_fields (length self.old.file.now) (front_of self.old) (drop self.old.at self.old.file.now) self.old.at }
         ensures end { OnOk result (AtEnd self.old.file.now self.new) }
     {
+        // Not `for`: only the field just read says where the next begins.
         while usize::from(self.at) < self.file.len() {
             self.read_field()?;
         }
@@ -51,7 +52,7 @@ impl Reader<'_> {
         ensures job { says self.entry.file.now result ≡ finish (front_of self.entry) self.entry.at }
         ensures rows { IfOk result SameRows }
     {
-        if let Section::Start | Section::Rows = self.section {
+        if matches!(self.section, Section::Start | Section::Rows) {
             return Err(fault_at(Refusal::TagNotAllowed, self.at));
         }
         let found = self.job.listing.places() + self.job.ladder.places();

@@ -5,7 +5,7 @@ ghost use Rattle.jobfile.specs.declared.fields.Field.TheVariants as field;
 
 use crate::bodies::LadderBody;
 use crate::checks::check_version;
-use crate::reader::Reader;
+use crate::reader::{Reader, behind};
 use catalogue::{Catalogue, Listing};
 use rules::{Fault, Refusal};
 
@@ -38,7 +38,7 @@ impl Reader<'_> {
         let Ok(()) = add_version(&mut self.job.listing, place, usize::from(self.at)) else {
             unreachable()
         };
-        self.at += 3 + body.len() as u16;
+        self.at = behind(self.at, body);
         Ok(())
     }
 
@@ -53,7 +53,7 @@ impl Reader<'_> {
         let Ok(()) = self.job.ladder.add(ladder.count, ladder.rungs) else {
             unreachable()
         };
-        self.at += 3 + body.len() as u16;
+        self.at = behind(self.at, body);
         Ok(())
     }
 }

@@ -1,15 +1,15 @@
-use Rattle.std.proofs.Common.{◌≡◌, ℕ, suc, ◌+◌, ◌-◌, None, List, Option, sym, ap, ◌∙◌, subst, arith}
+use Rattle.std.proofs.Common.{◌≡◌, ℕ, ◌+◌, ◌-◌, None, List, Option, sym, ap, ◌∙◌, subst, arith}
 use Rattle.std.proofs.lemmas.Result.{err_from_is_err_and}
 use Rattle.rules.specs.declared.refusals.Fault.{Fault}
 use Rattle.rules.specs.Openings.{each_to, first_fault}
 use Rattle.jobfile.specs.declared.bodies.LadderBody.{LadderBody}
-use Rattle.jobfile.specs.InMemory.{rungs_of}
-use Rattle.jobfile.specs.Reading.{after_tests, row_amount_tests, rung_amount, amount_fault}
+use Rattle.jobfile.specs.Bodies.{amount_of}
+use Rattle.jobfile.specs.Reading.{after_tests, row_amount_tests, amount_fault}
 use Rattle.jobfile.proofs.TestLoops.{each_more, each_fails, passed_tests, failed_tests}
 use Rattle.jobfile.proofs.bodies.LadderBody.check_versions.Goals as goal
 
 tests : LadderBody → ℕ → ℕ → List (Option Fault)
-tests l at v = row_amount_tests l.last_row (rung_amount (rungs_of (suc l.last_row) l.rungs) v) (amount_fault at l.place v)
+tests l at v = row_amount_tests l.last_row (amount_of l v) (amount_fault at l.place v)
 
 pub returns-in_err-check_version : goal.returns-in_err-check_version
 unfolding tests

@@ -28,5 +28,5 @@ returns c =
       job = ladder_read r bs c.add.new.self l.count l.rungs said.count did.rows did.added said.rungs (ap (λ o. after_tests o (tt {0})) (sym tests) ∙ sym c.check.ensures ∙ c.in_ok-check.was);
       file = refl;
       section = refl;
-      at = refl;
+      at = c.behind-self.ensures;
     }

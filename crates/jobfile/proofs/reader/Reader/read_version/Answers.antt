@@ -23,7 +23,7 @@ invariant_of-self-2 c =
     let passed : PassedTests r bs c.requires = sym by-listing ∙ sym c.check_version.ensures ∙ c.in_ok-check_version.was in
     let did = c.in-Ok.ensures in
     let has = has_version r bs c.requires passed c.add_version.new.listing c.from.result c.from.ensures did.end did.rows did.added in
-    record { within = omega (arith, c.requires.there); sound = still_sound r bs c.requires passed _ has; holds = still_holds r bs c.requires _ has }
+    record { within = omega (arith, c.requires.there, c.behind-self.ensures); sound = still_sound r bs c.requires passed _ has; holds = rw c.behind-self.ensures (still_holds r bs c.requires _ has) }
 
 pub returns : goal.returns
 returns c =
@@ -33,4 +33,4 @@ returns c =
     let passed : PassedTests r bs c.requires = sym by-listing ∙ sym c.check_version.ensures ∙ c.in_ok-check_version.was in
     let did = c.in-Ok.ensures in
     let has = has_version r bs c.requires passed c.add_version.new.listing c.from.result c.from.ensures did.end did.rows did.added in
-    record { job = job_read r bs c.requires passed _ has; file = refl; section = refl; at = refl }
+    record { job = job_read r bs c.requires passed _ has; file = refl; section = refl; at = c.behind-self.ensures }
