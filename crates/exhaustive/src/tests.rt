@@ -55,19 +55,14 @@ fn cheapest_and_first(rt: HostRuntime) -> Result<(), Fail> {
 #[test]
 fn none_and_refused(rt: HostRuntime) -> Result<(), Fail> {
     let falling = two_places(-4)?;
-    let Ok(None) = cheapest(&sheet(2, 3, -3), &falling) else {
-        return Err(Fail::new("the cap is under every price"));
-    };
-    let Ok(None) = cheapest(&sheet(2, 19, -7), &falling) else {
-        return Err(Fail::new("only version 1 keeps the row"));
-    };
-    let Err(Refusal::CountsDiffer) = cheapest(&sheet(3, 20, -3), &falling) else {
-        return Err(Fail::new("the sheet has a place more"));
-    };
+    assert_eq!(rt; cheapest(&sheet(2, 3, -3), &falling), Ok(None));
+    assert_eq!(rt; cheapest(&sheet(2, 19, -7), &falling), Ok(None));
+    assert_eq!(rt;
+        cheapest(&sheet(3, 20, -3), &falling),
+        Err(Refusal::CountsDiffer)
+    );
     let mut unknown = sheet(2, 20, -3);
     unknown.rows[0].kind = 4;
-    let Err(Refusal::UnknownKind) = cheapest(&unknown, &falling) else {
-        return Err(Fail::new("there is no kind 4"));
-    };
+    assert_eq!(rt; cheapest(&unknown, &falling), Err(Refusal::UnknownKind));
     Ok(())
 }

@@ -17,6 +17,7 @@ use rules::{Kind, MOST_PLACES, Refusal, Row, Sheet};
 pub(crate) struct Trial<'a, C: Catalogue> {
     pub(crate) sheet: &'a Sheet,
     catalogue: &'a C,
+    // Whole, as `Found` has it: a place not yet set has 0.
     versions: [u8; MOST_PLACES],
     ghost few_places: { sheet.now.places ≤ most_places },
     ghost few_rows: { last_row sheet.now ≤ greatest_row },
@@ -96,7 +97,6 @@ impl<'a, C: Catalogue> Trial<'a, C> {
 
     // The number of a row's kind, and its limit.
     fn row(&self, row: u8) -> Row
-        requires { row ≤ greatest_row }
         ensures kind { result.kind ≡ kind_of self.now.sheet.now row }
         ensures limit { result.limit ≡ limit_of self.now.sheet.now row }
     {
@@ -106,7 +106,8 @@ impl<'a, C: Catalogue> Trial<'a, C> {
                 limit: self.sheet.cap,
             };
         }
-        self.sheet.rows[usize::from(row) - 1]
+        let index = usize::from(row) - 1;
+        self.sheet.rows.get(index).copied().unwrap_or_default()
     }
 
     // Refuses a row whose kind there isn't.
@@ -121,7 +122,6 @@ impl<'a, C: Catalogue> Trial<'a, C> {
 
     // Whether the total of a row breaks its limit.
     fn breaks<J: Joining>(&self, row: u8) -> bool
-        requires { row ≤ greatest_row }
         ensures { result ≡ J.Joining.rule.worse (joined (guarded (C.Catalogue.meaning self.now.catalogue.now)) self.now.sheet.now J.Joining.rule row self.now.versions) (limit_of self.now.sheet.now row) }
     {
         J::is_worse(self.joined::<J>(row), i64::from(self.row(row).limit))
@@ -129,7 +129,6 @@ impl<'a, C: Catalogue> Trial<'a, C> {
 
     // Whether the limit of a row is kept.
     fn keeps_row(&self, row: u8) -> bool
-        requires { row ≤ greatest_row }
         ensures { result ≡ row_kept (guarded (C.Catalogue.meaning self.now.catalogue.now)) self.now.sheet.now self.now.versions row }
     {
         // A joining is a type, so each kind has an arm; a number that stands for none is read as the price's.

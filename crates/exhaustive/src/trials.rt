@@ -7,15 +7,15 @@ use crate::found::Found;
 use crate::trial::Trial;
 use catalogue::Catalogue;
 use rules::{Refusal, Sheet};
+use std::cmp;
 
 // Of two that were found the cheaper, and the first where they cost the same.
 fn cheaper(first: Option<Found>, second: Option<Found>) -> Option<Found>
     ensures { result ≡ cheaper_of first second }
 {
-    // `min_by_key` over both would hide which of two equals stays.
     match (first, second) {
-        (Some(first), Some(second)) if second.price < first.price => Some(second),
-        _ => first.or(second),
+        (Some(first), Some(second)) => Some(cmp::min_by_key(first, second, |found| found.price)),
+        (first, second) => first.or(second),
     }
 }
 

@@ -18,6 +18,7 @@ impl Draft {
     // A file up to its order, with so many rows of kind 1 and limit 0.
     pub(crate) fn front(heap: Global, order: &[u8], last_row: u8) -> Result<Draft, AllocError> {
         let mut draft = Draft::new(heap);
+        // The last byte by a pattern, as in `head`: `try_from` would need an error of its own.
         let [.., places] = order.len().to_be_bytes();
         draft.sheet(places, last_row, 1000)?;
         for _ in 0..last_row {
