@@ -8,7 +8,7 @@ use rules::Refusal;
 use std::fmt;
 
 // The answer to a sheet with so many places: the least price and the versions by place, or none, or why the sheet is
-// refused.
+// refused. The count is the sheet's: what was found keeps a whole table, since it is copied.
 #[derive(Drop)]
 pub struct AnswerText {
     pub places: u8,

@@ -4,7 +4,7 @@ ghost use Rattle.shown.specs.Texts.{numbers_text};
 
 use std::fmt;
 
-// So many numbers from the front of a table, each behind a space.
+// So many numbers from the front of a table, each behind a space. The count stands beside the table, as in `FirstRows`.
 #[derive(Drop)]
 pub(crate) struct FirstNumbers<'a> {
     pub(crate) count: u8,

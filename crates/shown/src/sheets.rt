@@ -7,6 +7,7 @@ use rules::{Request, Row, Sheet};
 use std::fmt;
 
 // So many rows from the front of a table, a line each, numbered from 1; `FirstNumbers` numbers nothing, so it stands apart.
+// The count stands beside the table: with a slice that the caller cuts, the loop's `loop-index-preserved` stayed open.
 #[derive(Drop)]
 struct FirstRows<'a> {
     count: u8,
