@@ -10,9 +10,7 @@ fn in_each_row(base: i32, step: i32) -> [Rung; MOST_ROWS] {
 
 // A ladder with so many places, each with two versions; the base of a place is its number more than the one given.
 fn ladder(rt: &impl Abort, rows: u8, places: u8, base: i32) -> Result<Ladder, Fail> {
-    let Ok(mut made) = Ladder::new(rows) else {
-        return Err(Fail::new("no ladder has so many rows"));
-    };
+    let mut made = Ladder::new(rows)?;
     for place in 1..=places {
         assert_eq!(rt;
             made.add(2, in_each_row(base.wrapping_add(i32::from(place)), 5)),
@@ -109,17 +107,9 @@ fn beside_up_to_the_last_place(rt: HostRuntime) -> Result<(), Fail> {
 const FIELDS: &[u8; 39] =
     b"abc\x04\0\x09\x01\0\0\0\x05\xff\xff\xff\xff\x04\0\x09\x01\x80\0\0\0\x7f\xff\xff\xff\x04\0\x09\x02\x01\x02\x03\x04\xff\xff\xff\0";
 
-// A listing with no place yet.
-fn listing(end: usize, rows: u8) -> Result<Listing, Fail> {
-    let Ok(made) = Listing::new(end, rows) else {
-        return Err(Fail::new("no listing has so many rows"));
-    };
-    Ok(made)
-}
-
 #[test]
 fn amounts_in_version_fields(rt: HostRuntime) -> Result<(), Fail> {
-    let mut places = listing(FIELDS.len(), 2)?;
+    let mut places = Listing::new(FIELDS.len(), 2)?;
     assert_eq!(rt; places.add_version(), Err(Refusal::PlaceOutOfTurn));
     assert_eq!(rt; places.add_place(3), Ok(()));
     assert_eq!(rt; places.add_version(), Ok(()));
@@ -153,7 +143,7 @@ fn amounts_in_version_fields(rt: HostRuntime) -> Result<(), Fail> {
 fn listings_refused_at_the_bounds(rt: HostRuntime) -> Result<(), Fail> {
     assert_eq!(rt; Listing::new(400, 0).err(), Some(Refusal::CountOutside));
     assert_eq!(rt; Listing::new(400, 10).err(), Some(Refusal::CountOutside));
-    let mut places = listing(400, 1)?;
+    let mut places = Listing::new(400, 1)?;
     assert_eq!(rt; places.add_place(usize::MAX), Err(Refusal::FieldCut));
     assert_eq!(rt; places.add_place(0), Ok(()));
     for _ in 1..MOST_VERSIONS {

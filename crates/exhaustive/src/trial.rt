@@ -59,14 +59,14 @@ impl<'a, C: Catalogue> Trial<'a, C> {
         }
     }
 
-    // The versions of a place, and 0 where there is no such place.
+    // The versions of a place, and 0 where there is no such place, as the definition of a choice has it.
     pub(crate) fn versions_in(&self, place: u8) -> u8
         ensures { result ≡ versions_in (C.Catalogue.meaning self.now.catalogue.now) place }
     {
         self.catalogue.versions(place).unwrap_or(0)
     }
 
-    // The amount of a row at a place, and 0 where the catalogue has none.
+    // The amount of a row at a place, and 0 where the catalogue has none, as the definition of a total has it.
     fn amount(&self, row: u8, place: u8) -> i64
         requires numbered { 1 ≤ place }
         requires few { place ≤ most_places }

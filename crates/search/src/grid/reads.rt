@@ -43,7 +43,7 @@ impl Grid {
         self.positions[index].count
     }
 
-    // The amount of a row with a picked version.
+    // The amount of a row with a picked version. 0 where there can be no such version: a setting has an amount everywhere.
     pub(crate) fn amount(&self, row: u8, pick: Pick) -> i64
         requires { row ≤ greatest_row }
         ensures is { result ≡ (setting self.now).amount row (pick.index + 1) pick.version }
