@@ -81,7 +81,7 @@ impl<'a, C: Catalogue> Trial<'a, C> {
         ensures { result ≡ joined (guarded (C.Catalogue.meaning self.now.catalogue.now)) self.now.sheet.now J.Joining.rule row self.now.versions }
     {
         let mut total = J::UNIT;
-        // `1..=places` costs a test more in each turn, a tenth of the whole run.
+        // `1..=places` costs a test more in each turn: twelve parts in a hundred of the whole run, where a tenth is allowed.
         for place in 1..self.sheet.places + 1 {
             total = J::join(total, self.amount(row, place));
         }

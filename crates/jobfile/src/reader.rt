@@ -6,7 +6,8 @@ ghost use Rattle.jobfile.specs.Sound.{HoldsIn, Sound};
 use crate::fields::Section;
 use crate::job::Job;
 
-// The job as far as it is read, and where the next field begins.
+// The job as far as it is read, and where the next field begins: an index beside the bytes and not the rest of them, since
+// faults and listings name a byte of the file.
 #[derive(Drop)]
 pub(crate) struct Reader<'a> {
     file: &'a [u8],

@@ -11,7 +11,8 @@ fn byte_at(bytes: &[u8], at: usize) -> u8
     bytes.get(at).copied().unwrap_or(0)
 }
 
-// The signed number in the four bytes from an index on, the most significant first; a byte that there is not counts as 0.
+// The signed number in the four bytes from an index on, the most significant first; a byte that there is not counts as 0,
+// as the definition has it, so that nothing is asked of callers.
 pub fn number_at(bytes: &[u8], at: usize) -> i32
     ensures { result ≡ number_at bytes.now at }
 {

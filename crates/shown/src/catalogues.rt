@@ -30,7 +30,7 @@ impl<C: Catalogue> fmt::Display for VersionText<'_, C> {
     }
 }
 
-// The versions of a place, a line each; a place that there isn't has 0 lines.
+// The versions of a place, a line each. 0 versions where there is no such place: an `if let` around the loop is no plainer.
 #[derive(Drop)]
 struct PlaceText<'a, C> {
     catalogue: &'a C,

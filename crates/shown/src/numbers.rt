@@ -4,7 +4,8 @@ ghost use Rattle.shown.specs.Texts.{numbers_text};
 
 use std::fmt;
 
-// So many numbers from the front of a table, each behind a space. The count stands beside the table, as in `FirstRows`.
+// So many numbers from the front of a table, each behind a space. The count stands beside the table: cut to the table's
+// length, it leaves open that what is cut is the table's front, and is no shorter.
 #[derive(Drop)]
 pub(crate) struct FirstNumbers<'a> {
     pub(crate) count: u8,

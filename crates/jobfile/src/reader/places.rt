@@ -47,6 +47,7 @@ impl Reader<'_> {
         requires { Due self.old field.Ladder body.now }
         ensures { BodyRead self.old field.Ladder body.now result self.new }
     {
+        // As in `finish`: a method of the job would state once more that the sum is a byte.
         let found = self.job.listing.places() + self.job.ladder.places();
         let ladder = LadderBody::new(self.job.sheet.last_row, body);
         ladder.check(self.job.sheet.places, found, self.at)?;

@@ -31,7 +31,8 @@ impl<'a> Place<'a> {
         }
     }
 
-    // The lowest version with which no ground stands. Loops with labels: at the first ground that stands, on to the next version.
+    // The lowest version with which no ground stands. By a rule of the project loops with
+    // labels: at the first ground that stands, on to the next version.
     pub(crate) fn free_version(&self) -> Option<u8>
         ensures { let s = self.now.search.now in result ≡ lowest_free (chosen_from s) (job_limits s) (state_of s) (above_place self.now) ((chosen_from s).versions (self.now.index + 1)) }
     {

@@ -17,7 +17,7 @@ impl Trial<'_> {
             && self.search.breaks_limit(&self.part, near)
     }
 
-    // A ground stands when each of its lines does; a plain loop, left at the first that doesn't.
+    // A ground stands when each of its lines does; by a rule of the project a plain loop, left at the first that doesn't.
     fn lines_stand(&self, ground: &[Line]) -> bool
         requires { AllNear ground.now }
         ensures { result ≡ holds self.now ground.now }
