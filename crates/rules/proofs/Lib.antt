@@ -25,4 +25,5 @@ pub mod TestLists
 pub mod OpeningTests
 pub mod Asked
 pub mod Works
+pub mod Comings
 pub mod WorkedExamples

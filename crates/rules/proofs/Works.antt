@@ -1,8 +1,8 @@
 -- What is worked out for a list of call records is what the rules say, and right. Assumes nothing.
-use Rattle.std.proofs.Common.{◌≡◌, ℕ, List, [], ◌∷◌, ◌++◌, reverse, Some, None, Option, sym, refl, ap, ◌∙◌, subst, ap₂, append_assoc, arith}
+use Rattle.std.proofs.Common.{◌≡◌, ℕ, List, [], ◌∷◌, ◌++◌, map, reverse, Some, None, Option, sym, refl, ap, ◌∙◌, subst, ap₂, append_assoc, arith}
 use mathlib.Core.List.{reverse-cons}
 use Rattle.std.specs.List.{AllByRecursion}
-use Rattle.std.proofs.lemmas.List.{append-nil}
+use Rattle.std.proofs.lemmas.List.{append-nil, reverse-append}
 use Rattle.rules.specs.declared.records.CallRecord.{CallRecord}
 use Rattle.rules.specs.declared.records.Request.{Request}
 use Rattle.rules.specs.declared.refusals.Fault.{Fault}
@@ -14,11 +14,12 @@ use Rattle.rules.specs.Refusals.{refusal_number}
 use Rattle.rules.specs.Openings.{Faultless, opening}
 use Rattle.rules.specs.Grounds.{Ground, Setting}
 use Rattle.rules.specs.Calls.{Answer, Call, Does, Job, Verdict, close, closed, reply, running, taken}
-use Rattle.rules.specs.Histories.{Entry, History, called, opened}
+use Rattle.rules.specs.Histories.{Entry, History, called, opened, play, unplayed}
 use Rattle.rules.specs.Settings.{setting}
-use Rattle.rules.specs.Records.{CarriedOut, ComesOf, ComesTo, IsClosed, KeptJob, Lawful, all_answered, answer_number, answered, asked, called_by, closed_job, closed_last, done, faultless, faulty, job_after, job_after_all, opened_with, passed_over, requests}
+use Rattle.rules.specs.KeptJobs.{CameBy, KeptJob, faultless, faulty, opened_with}
+use Rattle.rules.specs.Records.{CarriedOut, ComesOf, ComesTo, IsClosed, Lawful, all_answered, answer_number, answered, asked, called_by, closed_job, closed_last, done, job_after, job_after_all, passed_over, requests}
 use Rattle.rules.specs.Theorems.{RecordLaw}
-use Rattle.rules.proofs.Replies.{call_law}
+use Rattle.rules.proofs.Replies.{call_law, history_law}
 use Rattle.rules.proofs.Asked.{Fits, asked_fits, asked_request, asked_none}
 use Rattle.rules.proofs.Rights.{right_throughout}
 use Rattle.rules.proofs.OpeningTests.{none_faultless}
@@ -53,16 +54,12 @@ module _ (S : Setting) where
     here : {j : Job} → Leads j [] j
     then : {j i k : Job} {c : Call} {a : Answer} {es : List Entry} → Does S j c a i → Leads i es k → Leads j (entry c a ∷ es) k
 
-  forwards : (L : Limits) {es : List Entry} {j : Job} → History S L es j → {fs : List Entry} {k : Job} → Leads j fs k → Leads (closed L [] None) (reverse es ++ fs) k
-  forwards L opened l = l
-  forwards L (called {es = es} {c = c} {a = a} h d) {fs} {k} l =
-      subst (λ xs. Leads (closed L [] None) xs k) (sym (ap (λ xs. xs ++ fs) (reverse-cons (entry c a) es) ∙ append_assoc (reverse es) (entry c a ∷ []) fs)) (forwards L h (then d l))
-
-  backwards : (L : Limits) {fs : List Entry} {j k : Job} → Leads j fs k → (es : List Entry) → History S L es j → (gs : List Entry) × (History S L gs k) × (reverse gs ≡ reverse es ++ fs)
-  backwards L here es h = (es, h, sym (append-nil (reverse es)))
-  backwards L (then {c = c} {a = a} {es = fs} d l) es h =
-      let r = backwards L l (entry c a ∷ es) (called h d) in
-      (r.0, r.1, r.2 ∙ ap (λ xs. xs ++ fs) (reverse-cons (entry c a) es) ∙ append_assoc (reverse es) (entry c a ∷ []) fs)
+  -- calls that lead on from a job go on with its history
+  onwards : (L : Limits) {fs : List Entry} {j k : Job} → Leads j fs k → (es : List Entry) → History S L es j → (gs : List Entry) × (History S L (gs ++ es) k) × (reverse gs ≡ fs)
+  onwards L here es h = ([], h, refl)
+  onwards L {k = k} (then {c = c} {a = a} {es = fs} d l) es h =
+      let r = onwards L l (entry c a ∷ es) (called h d) in
+      (r.0 ++ (entry c a ∷ []), subst (λ xs. History S L xs k) (sym (append_assoc r.0 (entry c a ∷ []) es)) r.1, reverse-append r.0 (entry c a ∷ []) ∙ ap (λ xs. entry c a ∷ xs) r.2)
 
   -- a closed job does not take a close
   no_close_taken : (L : Limits) (gs : List Ground) (v : Option Verdict) (k : Job) → Does S (closed L gs v) close taken k → ⊥
@@ -151,48 +148,63 @@ module _ (S : Setting) where
   faulty_after f [] = refl
   faulty_after f (r ∷ rs) = faulty_after f rs
 
-module _ (m : Meaning) (w : SoundMeaning m) (s : Sheet) (f : Faultless m s) (rs : List CallRecord) where
+  -- what follows calls that led to a job leads on from it
+  since : (L : Limits) (before : List Entry) (i : Job) → History S L before i → (cs : List Entry) {es : List Entry} {k : Job} → History S L es k → es ≡ cs ++ before → {fs : List Entry} {l : Job} → Leads k fs l → Leads i (reverse cs ++ fs) l
+  since L before i h [] {es} {k} g e {fs} {l} t =
+      let as_played : record { entries = es; job = k } ≡ record { entries = before; job = i } =
+          (history_law S L).is_played es k g ∙ ap (λ xs. play S (unplayed L) (reverse (map (λ x. x.call) xs))) e ∙ sym ((history_law S L).is_played before i h)
+      in
+      subst (λ j. Leads j fs l) (ap (λ p. p.job) as_played) t
+  since L before i h (x ∷ cs) opened e t = absurd (cc)
+  since L before i h (x ∷ cs) (called {es = es} {c = c} {a = a} g d) e {fs} {l} t =
+      let first : entry c a ≡ x = cc in
+      let rest : es ≡ cs ++ before = cc in
+      subst (λ xs. Leads i xs l) (sym (ap (λ xs. xs ++ fs) (reverse-cons x cs) ∙ append_assoc (reverse cs) (x ∷ []) fs))
+      (subst (λ y. Leads i (reverse cs ++ y ∷ fs) l) first (since L before i h cs g rest (then d t)))
+
+module _ (m : Meaning) (w : SoundMeaning m) (s : Sheet) (f : Faultless m s) (before : List Entry) (j : Job) (h : History (setting m s) (limit_of s) before j) (rs : List CallRecord) where
   abbrev S : Setting
   S = setting m s
 
-  abbrev first : Job
-  first = closed (limit_of s) [] None
-
   abbrev worked : Worked
-  worked = work_on S first (requests rs)
+  worked = work_on S j (requests rs)
 
-  course : ComesTo S (limit_of s) worked.records worked.job
+  course : ComesTo S (limit_of s) before worked.records worked.job
   course =
-      let x = found S first (requests rs) in
-      let r = backwards S (limit_of s) x.leads [] opened in
+      let x = found S j (requests rs) in
+      let r = onwards S (limit_of s) x.leads before h in
       record { calls = r.0; history = r.1; just_these = subst (ComesOf worked.records) (sym r.2) x.just_these; is_closed = x.is_closed }
 
-  only : (os : List CallRecord) (k : Job) → requests os ≡ requests rs → ComesTo S (limit_of s) os k → record { records = os; job = k } ≡ worked
+  only : (os : List CallRecord) (k : Job) → requests os ≡ requests rs → ComesTo S (limit_of s) before os k → record { records = os; job = k } ≡ worked
   only os k e c =
-      let l = forwards S (limit_of s) c.history here in
-      only_found S c.just_these (subst (λ xs. Leads S first xs k) (append-nil (reverse c.calls)) l) c.is_closed
-      ∙ ap (work_on S first) e
+      let l = since S (limit_of s) before j h c.calls c.history refl here in
+      only_found S c.just_these (subst (λ xs. Leads S j xs k) (append-nil (reverse c.calls)) l) c.is_closed
+      ∙ ap (work_on S j) e
 
   -- what is worked out is carried out, and what equals it too
-  carried_out : (os : List CallRecord) → os ≡ worked.records → requests os ≡ requests rs → CarriedOut m s os worked.job
+  carried_out : (os : List CallRecord) → os ≡ worked.records → requests os ≡ requests rs → CarriedOut m s before os worked.job
   carried_out os d e =
-      subst (λ xs. CarriedOut m s xs worked.job) (sym d)
+      subst (λ xs. CarriedOut m s before xs worked.job) (sym d)
       (record {
         course = course;
         right = right_throughout m w s f course.history;
         only = λ os k same c. let u = only os k (same ∙ ap requests (sym d) ∙ e) c in (ap (λ x. x.records) u, ap (λ x. x.job) u);
       })
 
-lawful : (m : Meaning) → SoundMeaning m → (s : Sheet) (rs : List CallRecord) (o : Option Fault) → opening m s ≡ o → Lawful m s (all_answered (setting m s) (opened_with s o) rs) (job_after_all (setting m s) (opened_with s o) rs)
-lawful m w s rs (Some f) h =
+lawful : (m : Meaning) → SoundMeaning m → (s : Sheet) (before : List Entry) (k : KeptJob) → CameBy m s before k → (rs : List CallRecord) → Lawful m s before (all_answered (setting m s) k rs) (job_after_all (setting m s) k rs)
+lawful m w s before (faulty f) h rs =
     let S : Setting = setting m s in
-    subst (Lawful m s (all_answered S (faulty f) rs)) (sym (faulty_after S f rs)) (h, faulty_answers S f rs)
-lawful m w s rs None h =
+    subst (Lawful m s before (all_answered S (faulty f) rs)) (sym (faulty_after S f rs)) (h, faulty_answers S f rs)
+lawful m w s before (faultless j) h rs =
     let S : Setting = setting m s in
-    let j : Job = closed (limit_of s) [] None in
     let same = same_work S j rs in
-    subst (Lawful m s (all_answered S (faultless j) rs)) (sym same.1)
-    (h, carried_out m w s (none_faultless m s h) rs (all_answered S (faultless j) rs) same.0 (requests_stay S (faultless j) rs))
+    subst (Lawful m s before (all_answered S (faultless j) rs)) (sym same.1)
+    (h.0, carried_out m w s (none_faultless m s h.0) before j h.1 rs (all_answered S (faultless j) rs) same.0 (requests_stay S (faultless j) rs))
+
+opened_came : (m : Meaning) (s : Sheet) (o : Option Fault) → opening m s ≡ o → CameBy m s [] (opened_with s o)
+opened_came m s (Some f) e = e
+opened_came m s None e = (e, opened)
 
 pub record_law : RecordLaw
-record_law m w s rs = (lawful m w s rs (opening m s) refl, requests_stay (setting m s) (opened_with s (opening m s)) rs)
+record_law m w s =
+    record { opens = opened_came m s (opening m s) refl; carries = λ before k h rs. (lawful m w s before k h rs, requests_stay (setting m s) k rs) }

@@ -1,24 +1,25 @@
 -- Worked examples of the rules. Assumes nothing.
-use Rattle.std.specs.Prelude.{◌≡◌, ℕ, ◌-◌, Bool, true, false, List, [], ◌∷◌, ℤ, pos, negsuc, Some, None, Option, slice_index_or}
+use Rattle.std.specs.Prelude.{◌≡◌, ℕ, ◌-◌, Bool, true, false, List, [], ◌∷◌, ℤ, pos, negsuc, Ok, Result, Some, Option, slice_index_or}
 use Rattle.std.specs.List.{AllByRecursion}
 use Rattle.rules.specs.declared.lines.Line.{Line}
 use Rattle.rules.specs.declared.lines.ClosingLine.{ClosingLine}
 use Rattle.rules.specs.declared.records.CallRecord.{CallRecord}
+use Rattle.rules.specs.declared.refusals.Fault.{Fault}
 use Rattle.rules.specs.declared.sheets.Sheet.{Sheet}
 use Rattle.rules.specs.Joinings.{greatest_at_most}
 use Rattle.rules.specs.Catalogues.{Meaning, rung}
 use Rattle.rules.specs.Choices.{Told, says_least, says_none}
 use Rattle.rules.specs.Grounds.{line_stands, kept}
-use Rattle.rules.specs.Calls.{closed, running}
-use Rattle.rules.specs.Settings.{setting, Seen, seen}
-use Rattle.rules.specs.Records.{KeptJob, faulty, faultless, work_job}
+use Rattle.rules.specs.Settings.{setting, Seen}
+use Rattle.rules.specs.KeptJobs.{verdict_told}
+use Rattle.rules.specs.Records.{work_job}
 
 -- What an example comes to.
 pub data Value : Type 0 where
   amount : ℤ → Value
   test : Bool → Value
   line : Line → Value
-  verdict : Option Seen → Value
+  verdict : Result (Option Seen) Fault → Value
 
 -- An example: what the rules come to, and what they are said to come to.
 pub record Example : Type 0 where
@@ -58,20 +59,13 @@ asks code row number = record { request = record { code = code; row = row; numbe
 abbrev pub whole_search : List CallRecord → List CallRecord
 whole_search after = asks 3 0 (pos 0) ∷ asks 4 0 (pos 100) ∷ asks 5 0 (pos 0) ∷ after
 
--- The verdict that a job carries.
-abbrev pub seen_of : Sheet → KeptJob → Option Seen
-seen_of s (faulty f) = None
-seen_of s (faultless (running L σ)) = None
-seen_of s (faultless (closed L gs None)) = None
-seen_of s (faultless (closed L gs (Some v))) = Some (seen s v)
-
 -- The verdict after a list of call records.
 abbrev pub verdict_after : Meaning → Sheet → List CallRecord → Value
-verdict_after m s rs = verdict (seen_of s (work_job m s rs))
+verdict_after m s rs = verdict (verdict_told s (work_job m s rs))
 
 -- A verdict that says this, with so many steps and learned grounds held.
 abbrev pub seen_as : Told → ℕ → ℕ → Value
-seen_as says steps held = verdict (Some (record { says = says; steps = steps; held = held }))
+seen_as says steps held = verdict (Ok (Some (record { says = says; steps = steps; held = held })))
 
 -- A closing line.
 abbrev pub closing : ℕ → ℤ → ClosingLine

@@ -11,6 +11,7 @@ pub mod Search
 pub mod Calls
 pub mod Histories
 pub mod Settings
+pub mod KeptJobs
 pub mod Promises
 pub mod Records
 pub mod Theorems

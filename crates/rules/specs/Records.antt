@@ -1,5 +1,5 @@
--- Calls that come as a list of call records, on a job that is opened for them: what comes of them, and that it is right at every time. Assumes nothing.
-use Rattle.std.specs.Prelude.{◌≡◌, ℕ, if◌then◌else◌, ◌&&◌, List, [], ◌∷◌, map, reverse, pos, Some, None, Option, ◌==◌, ◌≢◌, nat_eq, unsigned_abs}
+-- Calls that come as a list of call records: what comes of them on a job, and that it is right at every time. Assumes nothing.
+use Rattle.std.specs.Prelude.{◌≡◌, ℕ, if◌then◌else◌, ◌&&◌, List, [], ◌∷◌, ◌++◌, map, reverse, pos, Some, None, Option, ◌==◌, ◌≢◌, nat_eq, unsigned_abs}
 use Rattle.std.specs.List.{AllByRecursion}
 use Rattle.rules.specs.declared.records.CallRecord.{CallRecord}
 use Rattle.rules.specs.declared.records.Request.{Request}
@@ -14,6 +14,7 @@ use Rattle.rules.specs.Grounds.{Setting}
 use Rattle.rules.specs.Calls.{Job, closed, running, Call, change, clear, begin_search, close, run, Answer, taken, ran, refused, reply}
 use Rattle.rules.specs.Histories.{Entry, History}
 use Rattle.rules.specs.Settings.{setting}
+use Rattle.rules.specs.KeptJobs.{KeptJob, faulty, faultless, opened_with}
 use Rattle.rules.specs.Promises.{RightThroughout}
 
 -- The request of a call: its code, and 0 for each part that the code does not use.
@@ -42,11 +43,11 @@ abbrev pub IsClosed : Job → Type 0
 IsClosed (closed L gs v) = Unit {0}
 IsClosed (running L σ) = ⊥
 
--- What a list of call records comes to on a job that was opened with these limits: a history of just these calls and answers, which leaves the job closed.
-pub record ComesTo (S : Setting) (L : Limits) (rs : List CallRecord) (j : Job) : Type 0 where
-  -- the calls with their answers, the latest first
+-- What a list of call records comes to on a job that was opened with these limits and has had some calls: a history that goes on with just the records' calls and answers, and leaves the job closed.
+pub record ComesTo (S : Setting) (L : Limits) (before : List Entry) (rs : List CallRecord) (j : Job) : Type 0 where
+  -- the records' calls with their answers, the latest first
   pub calls : List Entry
-  pub history : History S L calls j
+  pub history : History S L (calls ++ before) j
   pub just_these : ComesOf rs (reverse calls)
   pub is_closed : IsClosed j
 
@@ -54,22 +55,17 @@ pub record ComesTo (S : Setting) (L : Limits) (rs : List CallRecord) (j : Job) :
 abbrev pub requests : List CallRecord → List Request
 requests rs = map (λ r. r.request) rs
 
--- A list of call records was carried out as the rules say, and what was said was right at every time.
-pub record CarriedOut (m : Meaning) (s : Sheet) (rs : List CallRecord) (j : Job) : Type 0 where
-  pub course : ComesTo (setting m s) (limit_of s) rs j
+-- A list of call records was carried out as the rules say, on a job that has had some calls, and what was said was right at every time.
+pub record CarriedOut (m : Meaning) (s : Sheet) (before : List Entry) (rs : List CallRecord) (j : Job) : Type 0 where
+  pub course : ComesTo (setting m s) (limit_of s) before rs j
   pub right : RightThroughout m s course.history
   -- no other answers and no other job come of these requests
-  pub only : (os : List CallRecord) (k : Job) → requests os ≡ requests rs → ComesTo (setting m s) (limit_of s) os k → (os ≡ rs) × (k ≡ j)
+  pub only : (os : List CallRecord) (k : Job) → requests os ≡ requests rs → ComesTo (setting m s) (limit_of s) before os k → (os ≡ rs) × (k ≡ j)
 
--- A job as it is kept: with the fault of its opening, or without one.
-pub data KeptJob : Type 0 where
-  faulty : Fault → KeptJob
-  faultless : Job → KeptJob
-
--- What is promised of a sheet, a catalogue's meaning, a list of call records with their answers, and the job afterwards: opened with a fault, the job keeps it and every record has its number for an answer; opened without, the records are carried out.
-abbrev pub Lawful : Meaning → Sheet → List CallRecord → KeptJob → Type 0
-Lawful m s rs (faulty f) = (opening m s ≡ Some f) × AllByRecursion (λ r. r.answer ≡ f.number) rs
-Lawful m s rs (faultless j) = (opening m s ≡ None) × CarriedOut m s rs j
+-- What is promised of a sheet, a catalogue's meaning, the calls before, a list of call records with their answers, and the job afterwards: opened with a fault, the job keeps it and every record has its number for an answer; opened without, the records are carried out.
+abbrev pub Lawful : Meaning → Sheet → List Entry → List CallRecord → KeptJob → Type 0
+Lawful m s before rs (faulty f) = (opening m s ≡ Some f) × AllByRecursion (λ r. r.answer ≡ f.number) rs
+Lawful m s before rs (faultless j) = (opening m s ≡ None) × CarriedOut m s before rs j
 
 -- The call that a request is for, worked out: none where the code isn't 1 to 5, or a part that the code does not use isn't 0.
 unfoldable pub asked : Request → Option Call
@@ -86,11 +82,6 @@ asked r =
 -- A record with its answer given; what it asks stays.
 abbrev pub answered : CallRecord → ℕ → CallRecord
 answered r n = record { request = r.request; answer = n }
-
--- A job as it is opened: with the sheet's limits, or with the first fault found.
-abbrev pub opened_with : Sheet → Option Fault → KeptJob
-opened_with s (Some f) = faulty f
-opened_with s None = faultless (closed (limit_of s) [] None)
 
 module _ (S : Setting) where
   -- The answer to a request, worked out: the number of the job's fault comes before any other.

@@ -1,5 +1,5 @@
 -- The theorems on the rules; each is the contract of a function. Assumes nothing.
-use Rattle.std.specs.Prelude.{◌≡◌, ℕ, ◌≤◌, false, List, map, reverse, None}
+use Rattle.std.specs.Prelude.{◌≡◌, ℕ, ◌≤◌, false, List, [], map, reverse, None}
 use Rattle.std.specs.List.{AllByRecursion}
 use Rattle.rules.specs.declared.lines.Line.{Line}
 use Rattle.rules.specs.declared.records.CallRecord.{CallRecord}
@@ -14,7 +14,8 @@ use Rattle.rules.specs.Calls.{Job, Call, Answer, refused, Does, reply}
 use Rattle.rules.specs.Histories.{Entry, History, unplayed, play}
 use Rattle.rules.specs.Settings.{setting, TrueGround}
 use Rattle.rules.specs.Promises.{RightThroughout}
-use Rattle.rules.specs.Records.{requests, Lawful, work_records, work_job}
+use Rattle.rules.specs.KeptJobs.{KeptJob, CameBy, opened_with}
+use Rattle.rules.specs.Records.{requests, Lawful, all_answered, job_after_all}
 
 -- At every state the rules name one outcome, which `next` works out.
 abbrev pub StepLaw : Type 0
@@ -65,7 +66,13 @@ abbrev pub PromiseLaw : Type 0
 PromiseLaw =
     (m : Meaning) → SoundMeaning m → (s : Sheet) → Faultless m s → (es : List Entry) (j : Job) (h : History (setting m s) (limit_of s) es j) → RightThroughout m s h
 
--- With every catalogue that keeps its bounds, every sheet and every list of call records, what is worked out is what the rules say, right at every time, and asks what was asked.
+-- With every catalogue that keeps its bounds and every sheet: a job is opened as the rules say; and on a job that any calls have led to, what is worked out for a list of call records is what the rules say, right at every time, and asks what was asked.
 abbrev pub RecordLaw : Type 0
 RecordLaw =
-    (m : Meaning) → SoundMeaning m → (s : Sheet) (rs : List CallRecord) → Lawful m s (work_records m s rs) (work_job m s rs) × (requests (work_records m s rs) ≡ requests rs)
+    (m : Meaning) → SoundMeaning m → (s : Sheet) →
+    record {
+      opens : CameBy m s [] (opened_with s (opening m s));
+      carries :
+        (before : List Entry) (k : KeptJob) → CameBy m s before k → (rs : List CallRecord) →
+        Lawful m s before (all_answered (setting m s) k rs) (job_after_all (setting m s) k rs) × (requests (all_answered (setting m s) k rs) ≡ requests rs);
+    }
