@@ -1,0 +1,38 @@
+-- Jobs in memory as jobs of the rules. Assumes nothing.
+use Rattle.std.specs.Prelude.{Ok, Err, Result}
+use Rattle.std.specs.Option.{option_map}
+use Rattle.rules.specs.declared.refusals.Fault.{Fault}
+use Rattle.rules.specs.declared.refusals.Refusal.{Refusal}
+use Rattle.rules.specs.Grounds.{Setting}
+use Rattle.rules.specs.Calls.{Answer, taken, refused, Job, closed}
+use Rattle.rules.specs.KeptJobs.{KeptJob, faulty, faultless}
+use Rattle.ledger.specs.Model.{held}
+use Rattle.search.specs.Settings.{setting}
+use Rattle.search.specs.States.{limits_of, chosen_from}
+use Rattle.search.specs.Runs.{running_of}
+use Rattle.search.specs.Findings.{verdict_with}
+use Rattle.chooser.specs.declared.closed.Closed.{Closed}
+use Rattle.chooser.specs.declared.running.Running.{Running}
+
+-- The job of a closed one.
+abbrev pub closed_of : Closed → Job
+closed_of c = closed (limits_of c.limits) (held c.ledger) (option_map (verdict_with (setting c.grid).places) c.verdict)
+
+-- The job of a running one.
+abbrev pub searched_of : Running → Job
+searched_of r = running_of r.search
+
+-- A closed job as it is kept.
+abbrev pub kept_closed : Result Closed Fault → KeptJob
+kept_closed (Ok c) = faultless (closed_of c)
+kept_closed (Err f) = faulty f
+
+-- A running job as it is kept.
+abbrev pub kept_running : Result Running Fault → KeptJob
+kept_running (Ok r) = faultless (searched_of r)
+kept_running (Err f) = faulty f
+
+-- What a call answers that is taken or refused.
+abbrev pub taken_or : Result (Unit {0}) Refusal → Answer
+taken_or (Ok u) = taken
+taken_or (Err e) = refused e

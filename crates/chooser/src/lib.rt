@@ -1,0 +1,5 @@
+// Jobs: their opening, the calls on them, and lists of call records.
+#![tactic(auto)]
+
+mod closed;
+mod running;
