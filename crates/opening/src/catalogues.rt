@@ -1,6 +1,9 @@
 // The tests of a catalogue beside a sheet.
-ghost use Rattle.std.specs.Prelude.{◌≡◌, ◌≤◌, [], ◌∷◌};
-ghost use Rattle.rules.specs.Openings.{checked, same_counts_test, version_tests, place_tests, each_to, catalogue_tests};
+ghost use Rattle.std.specs.Prelude.{◌≡◌, ◌≤◌, true, [], ◌∷◌};
+ghost use Rattle.rules.specs.declared.refusals.Refusal.TheVariants.{AmountBeyond};
+ghost use Rattle.rules.specs.Refusals.{fault_at};
+ghost use Rattle.rules.specs.Catalogues.{has_amount};
+ghost use Rattle.rules.specs.Openings.{checked, same_counts_test, amount_test, version_tests, place_tests, each_to, catalogue_tests};
 
 use catalogue::Catalogue;
 use rules::{Fault, GREATEST_AMOUNT, Refusal, Sheet};
@@ -22,6 +25,28 @@ fn check_counts<C: Catalogue>(sheet: &Sheet, catalogue: &C) -> Result<(), Fault>
     Ok(())
 }
 
+// One amount that the catalogue has.
+fn check_amount<C: Catalogue>(
+    catalogue: &C,
+    place: u8,
+    version: u8,
+    row: u8,
+) -> Result<(), Fault>
+    requires { has_amount (C.Catalogue.meaning catalogue.now) row place version ≡ true }
+    ensures { result ≡ checked (amount_test ((C.Catalogue.meaning catalogue.now).amount row place version) (fault_at AmountBeyond place version row) ∷ []) }
+{
+    let amount = catalogue.amount(row, place, version).unwrap_or(0);
+    if amount.unsigned_abs() > GREATEST_AMOUNT {
+        return Err(Fault {
+            place,
+            version,
+            row,
+            ..Fault::from(Refusal::AmountBeyond)
+        });
+    }
+    Ok(())
+}
+
 // The amounts of a version of a place, row by row.
 fn check_version<C: Catalogue>(catalogue: &C, place: u8, version: u8) -> Result<(), Fault>
     requires place { 1 ≤ place }
@@ -31,15 +56,7 @@ fn check_version<C: Catalogue>(catalogue: &C, place: u8, version: u8) -> Result<
     ensures { result ≡ checked (version_tests (C.Catalogue.meaning catalogue.now) place version) }
 {
     for row in 0..catalogue.rows() {
-        let amount = catalogue.amount(row, place, version);
-        if amount.is_some_and(|amount| amount.unsigned_abs() > GREATEST_AMOUNT) {
-            return Err(Fault {
-                place,
-                version,
-                row,
-                ..Fault::from(Refusal::AmountBeyond)
-            });
-        }
+        check_amount(catalogue, place, version, row)?;
     }
     Ok(())
 }

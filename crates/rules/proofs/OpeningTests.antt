@@ -27,7 +27,7 @@ module _ (m : Meaning) (s : Sheet) where
   row_tests_at r = row_tests (kind_of s r) (limit_of s r)
 
   abbrev amount_tests_at : ℕ → ℕ → ℕ → List (Option Fault)
-  amount_tests_at q v k = amount_test m q v (k - 1) ∷ []
+  amount_tests_at q v k = amount_test (m.amount (k - 1) q v) (fault_at AmountBeyond q v (k - 1)) ∷ []
 
   pub none_faultless : opening m s ≡ None → Faultless m s
   unfolding opening

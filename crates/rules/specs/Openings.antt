@@ -71,13 +71,17 @@ sheet_tests s = counts_test s ∷ limit_test (limit_of s 0) ∷ (rows_tests s (l
 abbrev pub same_counts_test : Meaning → Sheet → Option Fault
 same_counts_test m s = test (m.places == s.places && m.rows == suc (last_row s)) (fault_at CountsDiffer m.places 0 m.rows)
 
--- The test of the amount of a row at a place with a version.
-abbrev pub amount_test : Meaning → ℕ → ℕ → ℕ → Option Fault
-amount_test m q v row = test (nat_le (unsigned_abs (m.amount row q v)) greatest_amount) (fault_at AmountBeyond q v row)
+-- The test of an amount, with the fault of one beyond the bound.
+abbrev pub amount_test : ℤ → Fault → Option Fault
+amount_test amount beyond = test (nat_le (unsigned_abs amount) greatest_amount) beyond
 
--- The tests of the amounts of a version of a place, row by row from the price on.
+-- The tests of the amounts of so many rows, from the price on.
+abbrev pub amount_tests : ℕ → (ℕ → ℤ) → (ℕ → Fault) → List (Option Fault)
+amount_tests rows amount beyond = each_to (λ k. amount_test (amount (k - 1)) (beyond (k - 1)) ∷ []) rows
+
+-- The tests of the amounts of a version of a place, row by row.
 abbrev pub version_tests : Meaning → ℕ → ℕ → List (Option Fault)
-version_tests m q v = each_to (λ k. amount_test m q v (k - 1) ∷ []) m.rows
+version_tests m q v = amount_tests m.rows (λ row. m.amount row q v) (λ row. fault_at AmountBeyond q v row)
 
 -- The tests of the amounts of a place, version by version.
 abbrev pub place_tests : Meaning → ℕ → List (Option Fault)
