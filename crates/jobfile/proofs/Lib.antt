@@ -1,5 +1,4 @@
 pub mod TestLoops
-pub mod Counted
 pub mod Announcing
 pub mod Codec
 pub mod Rungs

@@ -22,6 +22,8 @@ pub mod Counts
 pub mod ClosingShapes
 pub mod Rights
 pub mod TestLists
+pub mod Counted
+pub mod TestLoops
 pub mod OpeningTests
 pub mod Asked
 pub mod Works
