@@ -4,13 +4,14 @@ use Rattle.std.specs.Option.{option_map}
 use Rattle.rules.specs.declared.refusals.Fault.{Fault}
 use Rattle.rules.specs.declared.refusals.Refusal.{Refusal}
 use Rattle.rules.specs.Grounds.{Setting}
-use Rattle.rules.specs.Calls.{Answer, taken, refused, Job, closed}
+use Rattle.rules.specs.Calls.{Answer, taken, ran, refused, Job, closed}
 use Rattle.rules.specs.KeptJobs.{KeptJob, faulty, faultless}
 use Rattle.ledger.specs.Model.{held}
 use Rattle.search.specs.Settings.{setting}
 use Rattle.search.specs.States.{limits_of, chosen_from}
-use Rattle.search.specs.Runs.{running_of}
+use Rattle.search.specs.Runs.{running_of, why_of}
 use Rattle.search.specs.Findings.{verdict_with}
+use Rattle.search.specs.declared.found.Ran.{Ran}
 use Rattle.chooser.specs.declared.closed.Closed.{Closed}
 use Rattle.chooser.specs.declared.running.Running.{Running}
 
@@ -32,7 +33,27 @@ abbrev pub kept_running : Result Running Fault → KeptJob
 kept_running (Ok r) = faultless (searched_of r)
 kept_running (Err f) = faulty f
 
+-- The setting that a closed job has in its tables; with a fault it has none, and the one given stands for it.
+abbrev pub setting_closed : Setting → Result Closed Fault → Setting
+setting_closed S (Ok c) = setting c.grid
+setting_closed S (Err f) = S
+
+-- The same of a running job.
+abbrev pub setting_running : Setting → Result Running Fault → Setting
+setting_running S (Ok r) = chosen_from r.search
+setting_running S (Err f) = S
+
 -- What a call answers that is taken or refused.
 abbrev pub taken_or : Result (Unit {0}) Refusal → Answer
 taken_or (Ok u) = taken
 taken_or (Err e) = refused e
+
+-- What is told of a call that is taken or refused.
+abbrev pub taken_told : Result (Unit {0}) Fault → Result Answer Fault
+taken_told (Ok u) = Ok taken
+taken_told (Err f) = Err f
+
+-- What is told of a run.
+abbrev pub ran_told : Result Ran Fault → Result Answer Fault
+ran_told (Ok r) = Ok (ran (why_of r.why) r.made)
+ran_told (Err f) = Err f

@@ -2,4 +2,7 @@
 #![tactic(auto)]
 
 mod closed;
+mod jobs;
 mod running;
+
+pub use jobs::{ClosedJob, RunningJob};

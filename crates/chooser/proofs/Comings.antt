@@ -1,0 +1,47 @@
+-- What a job keeps over a call: its setting, and that it has come about by calls. Assumes nothing.
+use Rattle.std.proofs.Common.{◌≡◌, List, Ok, Err, Result, sym, refl, ap, ◌∙◌, subst}
+use Rattle.std.proofs.Math.Logic.{∥∥₁_map}
+use Rattle.rules.specs.declared.refusals.Fault.{Fault}
+use Rattle.rules.specs.declared.sheets.Sheet.{Sheet}
+use Rattle.rules.specs.Catalogues.{Meaning}
+use Rattle.rules.specs.Grounds.{Setting}
+use Rattle.rules.specs.Calls.{Call, Job, reply}
+use Rattle.rules.specs.Histories.{Entry}
+use Rattle.rules.specs.Settings.{setting}
+use Rattle.rules.specs.KeptJobs.{CameBy, KeptJob, faultless, faulty, job_by}
+use Rattle.rules.proofs.Comings.{came_on}
+use Rattle.chooser.specs.Models.{closed_of, kept_closed, kept_running, searched_of, setting_closed, setting_running}
+use Rattle.chooser.specs.declared.closed.Closed.{Closed}
+use Rattle.chooser.specs.declared.running.Running.{Running}
+
+module _ (m : Meaning) (s : Sheet) where
+  -- a job has come about by some calls
+  abbrev pub Came : KeptJob → Type 0
+  Came k = ∥ ((es : List Entry) × CameBy m s es k) ∥₁
+
+  -- a job in tables of this setting, and how it came about
+  abbrev pub Sound : Setting → KeptJob → Type 0
+  Sound S k = (S ≡ setting m s) × Came k
+
+  pub came_after : (c : Call) (before after : KeptJob) → after ≡ job_by (setting m s) before c → Came before → Came after
+  came_after c before after e came =
+      ∥∥₁_map came (λ h. let on = came_on m s h.0 before c h.1 in (on.0, subst (CameBy m s on.0) (sym e) on.1))
+
+  -- a call that is done in the tables keeps both
+  pub goes_on : (c : Call) (j k : Job) (now later : Setting) → later ≡ now → k ≡ (reply now j c).job → Sound now (faultless j) → Sound later (faultless k)
+  goes_on c j k now later same done h =
+      (same ∙ h.0, came_after c (faultless j) (faultless k) (ap faultless (done ∙ ap (λ S. (reply S j c).job) h.0)) h.1)
+
+  -- what a closed job keeps, without a fault and with one
+  pub in_closed : (o : Result Closed Fault) (c : Closed) → o ≡ Ok c → Sound (setting_closed (setting m s) o) (kept_closed o) → Sound (setting_closed (setting m s) (Ok c)) (faultless (closed_of c))
+  in_closed o c e h = subst (λ o. Sound (setting_closed (setting m s) o) (kept_closed o)) e h
+
+  pub in_faulty : (o : Result Closed Fault) (f : Fault) → o ≡ Err f → Came (kept_closed o) → Came (faulty f)
+  in_faulty o f e h = subst (λ o. Came (kept_closed o)) e h
+
+  -- the same of a running one
+  pub in_running : (o : Result Running Fault) (r : Running) → o ≡ Ok r → Sound (setting_running (setting m s) o) (kept_running o) → Sound (setting_running (setting m s) (Ok r)) (faultless (searched_of r))
+  in_running o r e h = subst (λ o. Sound (setting_running (setting m s) o) (kept_running o)) e h
+
+  pub in_faulty_running : (o : Result Running Fault) (f : Fault) → o ≡ Err f → Came (kept_running o) → Came (faulty f)
+  in_faulty_running o f e h = subst (λ o. Came (kept_running o)) e h
