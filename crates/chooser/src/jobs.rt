@@ -31,3 +31,4 @@ pub struct RunningJob<C: Catalogue> {
 }
 
 mod changes;
+mod searches;

@@ -1,0 +1,32 @@
+use Rattle.std.proofs.Common.{refl, ap, sym}
+use Rattle.rules.specs.Calls.{close}
+use Rattle.rules.specs.KeptJobs.{told_on}
+use Rattle.rules.specs.Settings as rules
+use Rattle.search.specs.Settings.{setting}
+use Rattle.search.specs.States.{chosen_from}
+use Rattle.chooser.specs.Models.{closed_of, kept_running, searched_of}
+use Rattle.chooser.proofs.Comings.{goes_on, in_running, in_faulty_running}
+use Rattle.chooser.proofs.jobs.RunningJob.close.Goals as goal
+
+pub invariant_of-job : goal.invariant_of-job
+invariant_of-job g c =
+    let j = c.args.self in
+    let m = g.C.Catalogue.meaning j.catalogue in
+    let before = c.in-Ok.running in
+    let after = c.close.result in
+    let kept =
+        goes_on m j.sheet close (searched_of before) (closed_of after) (chosen_from before.search) (setting after.grid)
+        c.close.ensures.grid c.close.ensures.job (in_running m j.sheet _ before c.in-Ok.is (j.seen, j.came))
+    in
+    record { seen = kept.0; came = kept.1 }
+
+pub invariant_of-job-in-Err : goal.invariant_of-job-in-Err
+invariant_of-job-in-Err g c =
+    let j = c.args.self in
+    record { seen = refl; came = in_faulty_running (g.C.Catalogue.meaning j.catalogue) j.sheet _ _ c.in-Err.is j.came }
+
+pub returns-in-Ok-clause-told : goal.returns-in-Ok-clause-told
+unfolding Rattle.rules.specs.Calls.reply
+returns-in-Ok-clause-told g c =
+    let j = c.args.self in
+    sym (ap (λ o. told_on (rules.setting (g.C.Catalogue.meaning j.catalogue) j.sheet) (kept_running o) close) c.in-Ok.is)
