@@ -1,3 +1,4 @@
 pub mod Changes
 pub mod Budgets
 pub mod Comings
+pub mod NotNow

@@ -1,11 +1,12 @@
 -- Jobs in memory as jobs of the rules. Assumes nothing.
-use Rattle.std.specs.Prelude.{Ok, Err, Result}
+use Rattle.std.specs.Prelude.{Some, None, Ok, Err, Result}
 use Rattle.std.specs.Option.{option_map}
 use Rattle.rules.specs.declared.refusals.Fault.{Fault}
 use Rattle.rules.specs.declared.refusals.Refusal.{Refusal}
+use Rattle.rules.specs.Refusals.{fault}
 use Rattle.rules.specs.Grounds.{Setting}
 use Rattle.rules.specs.Calls.{Answer, taken, ran, refused, Job, closed}
-use Rattle.rules.specs.KeptJobs.{KeptJob, faulty, faultless}
+use Rattle.rules.specs.KeptJobs.{KeptJob, faulty, faultless, fault_of}
 use Rattle.ledger.specs.Model.{held}
 use Rattle.search.specs.Settings.{setting}
 use Rattle.search.specs.States.{limits_of, chosen_from}
@@ -57,3 +58,12 @@ taken_told (Err f) = Err f
 abbrev pub ran_told : Result Ran Fault → Result Answer Fault
 ran_told (Ok r) = Ok (ran (why_of r.why) r.made)
 ran_told (Err f) = Err f
+
+-- What is told of a call without what a run came to.
+abbrev pub made_told : Result Answer Fault → Result (Unit {0}) Fault
+made_told (Ok a) = Ok tt
+made_told (Err f) = Err f
+
+-- The fault of a job, or that of a refusal where it has none.
+abbrev pub fault_or : KeptJob → Refusal → Fault
+fault_or k e = elim (fault_of k) [ Some f ↦ f | None ↦ fault e ]

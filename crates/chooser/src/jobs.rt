@@ -31,4 +31,5 @@ pub struct RunningJob<C: Catalogue> {
 }
 
 mod changes;
+mod questions;
 mod searches;

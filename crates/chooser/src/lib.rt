@@ -2,7 +2,10 @@
 #![tactic(auto)]
 
 mod closed;
+mod driver;
 mod jobs;
+mod requests;
 mod running;
 
+pub use driver::Job;
 pub use jobs::{ClosedJob, RunningJob};

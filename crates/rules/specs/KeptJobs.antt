@@ -28,6 +28,11 @@ abbrev pub CameBy : Meaning → Sheet → List Entry → KeptJob → Type 0
 CameBy m s es (faulty f) = opening m s ≡ Some f
 CameBy m s es (faultless j) = (opening m s ≡ None) × History (setting m s) (limit_of s) es j
 
+-- The fault of a job's opening, if it found one.
+abbrev pub fault_of : KeptJob → Option Fault
+fault_of (faulty f) = Some f
+fault_of (faultless j) = None
+
 -- What an answer tells the caller: a refusal is told as a fault that says nothing of where it was met.
 abbrev pub heard : Answer → Result Answer Fault
 heard taken = Ok taken

@@ -1,0 +1,16 @@
+// A job, closed or running, and the calls that come as records.
+ghost use Rattle.std.specs.Prelude.{◌≡◌};
+ghost use Rattle.rules.specs.Settings.{setting};
+ghost use Rattle.rules.specs.KeptJobs.{told_on, job_by};
+
+use crate::jobs::{ClosedJob, RunningJob};
+use catalogue::Catalogue;
+
+// A job in one of its two states.
+#[derive(Drop)]
+pub enum Job<C: Catalogue> {
+    Closed(ClosedJob<C>),
+    Running(RunningJob<C>),
+}
+
+mod takes;
