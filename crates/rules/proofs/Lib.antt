@@ -23,6 +23,7 @@ pub mod ClosingShapes
 pub mod Rights
 pub mod TestLists
 pub mod Counted
+pub mod Filled
 pub mod TestLoops
 pub mod OpeningTests
 pub mod Asked

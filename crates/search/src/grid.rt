@@ -25,5 +25,5 @@ pub struct Grid {
     ghost near: { Near positions },
 }
 
+mod makes;
 mod reads;
-mod writes;
