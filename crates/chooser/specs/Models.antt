@@ -1,5 +1,5 @@
 -- Jobs in memory as jobs of the rules. Assumes nothing.
-use Rattle.std.specs.Prelude.{Some, None, Ok, Err, Result}
+use Rattle.std.specs.Prelude.{ℕ, Some, None, Ok, Err, Result}
 use Rattle.std.specs.Option.{option_map}
 use Rattle.rules.specs.declared.refusals.Fault.{Fault}
 use Rattle.rules.specs.declared.refusals.Refusal.{Refusal}
@@ -67,3 +67,8 @@ made_told (Err f) = Err f
 -- The fault of a job, or that of a refusal where it has none.
 abbrev pub fault_or : KeptJob → Refusal → Fault
 fault_or k e = elim (fault_of k) [ Some f ↦ f | None ↦ fault e ]
+
+-- The number that a record is given for what its call was told.
+abbrev pub number_told : Result (Unit {0}) Fault → ℕ
+number_told (Ok u) = 0
+number_told (Err f) = f.number
