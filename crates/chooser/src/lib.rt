@@ -6,6 +6,8 @@ mod driver;
 mod jobs;
 mod requests;
 mod running;
+mod verdicts;
 
 pub use driver::Job;
 pub use jobs::{ClosedJob, RunningJob};
+pub use verdicts::{Choice, ClosingGround, Seen, Told};
