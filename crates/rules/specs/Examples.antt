@@ -1,5 +1,5 @@
 -- Worked examples of the rules. Assumes nothing.
-use Rattle.std.specs.Prelude.{◌≡◌, ℕ, ◌-◌, Bool, true, false, List, [], ◌∷◌, ℤ, pos, negsuc, Some, None, Option, slice_index_or}
+use Rattle.std.specs.Prelude.{◌≡◌, ℕ, ◌-◌, Bool, true, false, List, [], ◌∷◌, ℤ, pos, negsuc, Some, Option, slice_index_or}
 use Rattle.std.specs.List.{AllByRecursion}
 use Rattle.rules.specs.declared.lines.Line.{Line}
 use Rattle.rules.specs.declared.lines.ClosingLine.{ClosingLine}
@@ -9,9 +9,8 @@ use Rattle.rules.specs.Joinings.{greatest_at_most}
 use Rattle.rules.specs.Catalogues.{Meaning, rung}
 use Rattle.rules.specs.Choices.{Told, says_least, says_none}
 use Rattle.rules.specs.Grounds.{line_stands, kept}
-use Rattle.rules.specs.Calls.{closed, running}
-use Rattle.rules.specs.Settings.{setting, Seen, seen}
-use Rattle.rules.specs.Records.{KeptJob, faulty, faultless, work_job}
+use Rattle.rules.specs.Settings.{setting, Seen}
+use Rattle.rules.specs.Records.{seen_of, work_job}
 
 -- What an example comes to.
 pub data Value : Type 0 where
@@ -57,13 +56,6 @@ asks code row number = record { request = record { code = code; row = row; numbe
 -- A search, run with a budget of 100 and closed, and then what comes after.
 abbrev pub whole_search : List CallRecord → List CallRecord
 whole_search after = asks 3 0 (pos 0) ∷ asks 4 0 (pos 100) ∷ asks 5 0 (pos 0) ∷ after
-
--- The verdict that a job carries.
-abbrev pub seen_of : Sheet → KeptJob → Option Seen
-seen_of s (faulty f) = None
-seen_of s (faultless (running L σ)) = None
-seen_of s (faultless (closed L gs None)) = None
-seen_of s (faultless (closed L gs (Some v))) = Some (seen s v)
 
 -- The verdict after a list of call records.
 abbrev pub verdict_after : Meaning → Sheet → List CallRecord → Value

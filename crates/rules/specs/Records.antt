@@ -13,7 +13,7 @@ use Rattle.rules.specs.Openings.{opening}
 use Rattle.rules.specs.Grounds.{Setting}
 use Rattle.rules.specs.Calls.{Job, closed, running, Call, change, clear, begin_search, close, run, Answer, taken, ran, refused, reply}
 use Rattle.rules.specs.Histories.{Entry, History}
-use Rattle.rules.specs.Settings.{setting}
+use Rattle.rules.specs.Settings.{setting, Seen, seen}
 use Rattle.rules.specs.Promises.{RightThroughout}
 
 -- The request of a call: its code, and 0 for each part that the code does not use.
@@ -65,6 +65,13 @@ pub record CarriedOut (m : Meaning) (s : Sheet) (rs : List CallRecord) (j : Job)
 pub data KeptJob : Type 0 where
   faulty : Fault → KeptJob
   faultless : Job → KeptJob
+
+-- The verdict that a job carries.
+abbrev pub seen_of : Sheet → KeptJob → Option Seen
+seen_of s (faulty f) = None
+seen_of s (faultless (running L σ)) = None
+seen_of s (faultless (closed L gs None)) = None
+seen_of s (faultless (closed L gs (Some v))) = Some (seen s v)
 
 -- What is promised of a sheet, a catalogue's meaning, a list of call records with their answers, and the job afterwards: opened with a fault, the job keeps it and every record has its number for an answer; opened without, the records are carried out.
 abbrev pub Lawful : Meaning → Sheet → List CallRecord → KeptJob → Type 0
