@@ -5,7 +5,7 @@ mod faults;
 mod laws;
 
 pub use faults::{FAULT_BUFFER, fault_line, write_fault};
-pub use laws::worked_report;
+pub use laws::{report_law, worked_report};
 
 #[cfg(test)]
 mod tests;
