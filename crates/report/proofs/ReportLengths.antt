@@ -23,7 +23,7 @@ use Rattle.report.specs.Theorems.{ReportLaw}
 use Rattle.report.proofs.LineLengths.{answer_few, call_fits, job_fits, line_most}
 use Rattle.report.proofs.VerdictLengths.{seen_fits, verdict_most}
 
--- what each record pays; a search and its close pay for two lines and a verdict
+-- for how many bytes a record is counted: twice that holds the lines of a search and its close, and a verdict
 abbrev share : ℕ
 share = 158
 
@@ -52,18 +52,18 @@ module _ (m : Meaning) (w : SoundMeaning m) (s : Sheet) (f : Faultless m s) wher
       let r : Right m s (called h.1 (closes o n)) = (right_throughout m w s f (called h.1 (closes o n))).1 in
       seen_fits m w s f L (seen s (verdict σ o)) (r.saying _ by_verdict) (r.shape _ by_verdict) (steps_within S h.1) r.space.0
 
-  -- a call and what it closes is paid for
-  paid : {j : Job} {c : Call} {a : Answer} {k : Job} → Past j → Does S j c a k → length (closing_text m s (faultless j) (faultless k)) + line_most + spared k ≤ share + spared j
-  paid {j = closed L gs v} {k = k} h d = omega (arith, (spared_within k).1)
-  paid {j = running L σ} h (refuses r) = omega arith
-  paid {j = running L σ} h (runs p q) = omega arith
-  paid {j = running L σ} h (closes o n) = omega (arith, verdict_fits L σ o h n)
+  -- the line of a call and what it closes are within its share
+  within_share : {j : Job} {c : Call} {a : Answer} {k : Job} → Past j → Does S j c a k → length (closing_text m s (faultless j) (faultless k)) + line_most + spared k ≤ share + spared j
+  within_share {j = closed L gs v} {k = k} h d = omega (arith, (spared_within k).1)
+  within_share {j = running L σ} h (refuses r) = omega arith
+  within_share {j = running L σ} h (runs p q) = omega arith
+  within_share {j = running L σ} h (closes o n) = omega (arith, verdict_fits L σ o h n)
 
   closed_fits : (j : Job) → Past j → length (closing_text m s (faultless j) (closed_job S (faultless j))) ≤ spared j
   closed_fits (closed L gs v) h = omega arith
   closed_fits (running L σ) h =
       let d = (call_law S (running L σ) close).0 in
-      omega (arith, paid h d, (spared_within (reply S (running L σ) close).job).0)
+      omega (arith, within_share h d, (spared_within (reply S (running L σ) close).job).0)
 
   -- nothing is closed where nothing is called
   none_closed : (j : Job) → length (closing_text m s (faultless j) (faultless j)) ≡ 0
@@ -87,7 +87,7 @@ module _ (m : Meaning) (w : SoundMeaning m) (s : Sheet) (f : Faultless m s) wher
   first_fits j k rs (Some c) l rec h =
       let r = reply S j c in
       let d = (call_law S j c).0 in
-      grind (arith, length-append, call_fits k (answer_number r.answer) l (answer_few r.answer), paid h d, rec r.job (_, called h.1 d))
+      grind (arith, length-append, call_fits k (answer_number r.answer) l (answer_few r.answer), within_share h d, rec r.job (_, called h.1 d))
 
   calls_fit : (k : ℕ) (rs : List CallRecord) → k + length rs ≤ suc most_reported → (j : Job) → Fits k rs j
   calls_fit k [] l j h = omega (arith, closed_fits j h)
