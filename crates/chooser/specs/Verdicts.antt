@@ -18,8 +18,8 @@ told_of (Full best) = choices.says_full (option_map (λ c. c.versions.items) bes
 told_of (Unfinished best) = choices.says_unfinished (option_map (λ c. c.versions.items) best)
 
 -- The verdict, in the words of the rules.
-abbrev pub seen_of : Seen → settings.Seen
-seen_of v = record { says = told_of v.says; steps = v.steps; held = v.held }
+abbrev pub seen_in : Seen → settings.Seen
+seen_in v = record { says = told_of v.says; steps = v.steps; held = v.held }
 
 -- The price of a choice is what it costs.
 abbrev pub Priced : Meaning → Sheet → Choice → Type 0

@@ -1,1 +1,4 @@
 pub mod FaultLines
+pub mod Reports
+pub mod Examples
+pub mod Theorems

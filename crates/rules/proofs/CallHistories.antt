@@ -1,8 +1,9 @@
 -- What every call keeps, along every history, by position. Assumes nothing.
-use Rattle.std.proofs.Common.{◌≡◌, ℕ, suc, ◌+◌, ◌*◌, ◌<◌, ◌⊎◌, List, ◌∷◌, ℤ, pos, Some, None, Option, refl, ap, ◌∙◌, subst, inl, inr, arith}
+use Rattle.std.proofs.Common.{◌≡◌, ℕ, suc, ◌+◌, ◌*◌, ◌<◌, ◌≤◌, ◌⊎◌, List, ◌∷◌, ℤ, pos, Some, None, Option, refl, ap, ◌∙◌, subst, inl, inr, arith}
 use Rattle.std.specs.List.{AllByRecursion}
 use Rattle.std.proofs.lemmas.Bool.{cases_lt}
 use Rattle.rules.specs.declared.refusals.Refusal.{Refusal}
+use Rattle.rules.specs.Bounds.{most_steps}
 use Rattle.rules.specs.Sheets.{Limits}
 use Rattle.rules.specs.Choices.{changed}
 use Rattle.rules.specs.Grounds.{Ground, Learnable, Part, Setting, SoundSetting}
@@ -136,3 +137,20 @@ module _ (S : Setting) where
   pub last_budget : {L : Limits} {es : List Entry} {j : Job} → History S L es j → LastBudgetKept S es j
   last_budget opened = tt
   last_budget (called h d) = budget_kept d
+
+  -- the steps of a running search
+  abbrev pub StepsWithin : Job → Type 0
+  StepsWithin (closed L gs v) = Unit {0}
+  StepsWithin (running L σ) = σ.steps ≤ most_steps
+
+  does_within : {j : Job} {c : Call} {a : Answer} {k : Job} → StepsWithin j → Does S j c a k → StepsWithin k
+  does_within h (refuses r) = h
+  does_within h (changes p q) = tt
+  does_within h clears = tt
+  does_within h searches = omega arith
+  does_within h (runs p q) = omega (arith, p, q.within, runs_count q.steps)
+  does_within h (closes o n) = tt
+
+  pub steps_within : {L : Limits} {es : List Entry} {j : Job} → History S L es j → StepsWithin j
+  steps_within opened = tt
+  steps_within (called h d) = does_within (steps_within h) d

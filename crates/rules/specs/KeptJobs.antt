@@ -55,12 +55,13 @@ abbrev pub limit_told : Sheet → KeptJob → ℕ → Result ℤ Fault
 limit_told s (faulty f) row = Err f
 limit_told s (faultless j) row = where_holds (nat_le row (last_row s)) (fault NoSuchRow) (Ok (limits_of j row))
 
--- The verdict that a job carries, if it is closed and not unsearched.
-abbrev pub verdict_of : Sheet → Job → Option Seen
-verdict_of s (running L σ) = None
-verdict_of s (closed L gs v) = option_map (seen s) v
+-- The verdict that a job carries; none while it is unsearched or running, or where it has a fault.
+abbrev pub seen_of : Sheet → KeptJob → Option Seen
+seen_of s (faulty f) = None
+seen_of s (faultless (running L σ)) = None
+seen_of s (faultless (closed L gs v)) = option_map (seen s) v
 
 -- What is told of the verdict.
 abbrev pub verdict_told : Sheet → KeptJob → Result (Option Seen) Fault
 verdict_told s (faulty f) = Err f
-verdict_told s (faultless j) = Ok (verdict_of s j)
+verdict_told s (faultless j) = Ok (seen_of s (faultless j))
