@@ -8,7 +8,7 @@ use Rattle.rules.specs.declared.refusals.Fault.{Fault}
 use Rattle.rules.specs.declared.sheets.Sheet.{Sheet}
 use Rattle.rules.specs.Joinings.{greatest_at_most}
 use Rattle.rules.specs.Catalogues.{Meaning, rung}
-use Rattle.rules.specs.Choices.{Told, says_least, says_none}
+use Rattle.rules.specs.Choices.{Told, says_least, says_none, price}
 use Rattle.rules.specs.Grounds.{line_stands, kept}
 use Rattle.rules.specs.Settings.{setting, Seen}
 use Rattle.rules.specs.KeptJobs.{verdict_told}
@@ -115,8 +115,18 @@ examples =
     }
     -- phones and batteries: price 130 with versions 1 and 2; and then, with the limit of row 1 at 50, price 100 with versions 2 and 2
     ∷ record {
-      worked = verdict_after alarm_catalogue alarm_sheet (whole_search []) ∷ verdict_after alarm_catalogue alarm_sheet (whole_search (asks 1 1 (pos 50) ∷ whole_search [])) ∷ [];
-      stated = seen_as (says_least (1 ∷ 2 ∷ []) (closing 0 (pos 130) ∷ closing 1 (pos 50) ∷ [])) 9 3 ∷ seen_as (says_least (2 ∷ 2 ∷ []) (closing 0 (pos 100) ∷ [])) 11 6 ∷ [];
+      worked =
+          verdict_after alarm_catalogue alarm_sheet (whole_search [])
+          ∷ amount (price alarm_catalogue alarm_sheet (1 ∷ 2 ∷ []))
+          ∷ verdict_after alarm_catalogue alarm_sheet (whole_search (asks 1 1 (pos 50) ∷ whole_search []))
+          ∷ amount (price alarm_catalogue alarm_sheet (2 ∷ 2 ∷ []))
+          ∷ [];
+      stated =
+          seen_as (says_least (1 ∷ 2 ∷ []) (closing 0 (pos 130) ∷ closing 1 (pos 50) ∷ [])) 9 3
+          ∷ amount (pos 130)
+          ∷ seen_as (says_least (2 ∷ 2 ∷ []) (closing 0 (pos 100) ∷ [])) 11 6
+          ∷ amount (pos 100)
+          ∷ [];
     }
     ∷ []
 

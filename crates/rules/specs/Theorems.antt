@@ -73,6 +73,6 @@ RecordLaw =
     record {
       opens : CameBy m s [] (opened_with s (opening m s));
       carries :
-        (before : List Entry) (k : KeptJob) → CameBy m s before k → (rs : List CallRecord) →
-        Lawful m s before (all_answered (setting m s) k rs) (job_after_all (setting m s) k rs) × (requests (all_answered (setting m s) k rs) ≡ requests rs);
+          (before : List Entry) (k : KeptJob) → CameBy m s before k → (rs : List CallRecord) →
+          Lawful m s before (all_answered (setting m s) k rs) (job_after_all (setting m s) k rs) × (requests (all_answered (setting m s) k rs) ≡ requests rs);
     }
