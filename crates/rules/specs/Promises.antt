@@ -6,7 +6,7 @@ use Rattle.rules.specs.Bounds.{most_grounds, most_lines}
 use Rattle.rules.specs.Catalogues.{Meaning}
 use Rattle.rules.specs.Sheets.{Limits, limit_of, order_of}
 use Rattle.rules.specs.Choices.{Told, TrueAt, WellTold, part_choices}
-use Rattle.rules.specs.Grounds.{Ground}
+use Rattle.rules.specs.Grounds.{Ground, Proper, WellFormed}
 use Rattle.rules.specs.Search.{State, start, line_count, Runs, Ended}
 use Rattle.rules.specs.Calls.{when_ended, Verdict, Job, closed, running}
 use Rattle.rules.specs.Histories.{Entry, History, opened, called, limits_of, learned_of, limits_after, steps_run, began_with, LastBudgetKept}
@@ -24,10 +24,10 @@ module _ (m : Meaning) (s : Sheet) where
   FewSteps es (closed L gs (Some v)) = (v.steps ≡ steps_run es) × (v.steps < 2 * part_choices m (order_of s))
   FewSteps es (running L σ) = (σ.steps ≡ steps_run es) × (σ.steps < 2 * part_choices m (order_of s))
 
-  -- The steps of a search lead from its start to its state, each the one that the rules name where it is made.
+  -- A search is at a part-choice, and its steps lead from its start there, each the one that the rules name where it is made.
   abbrev pub StepsNamed : List Ground → Job → Type 0
   StepsNamed began (closed L gs v) = Unit {0}
-  StepsNamed began (running L σ) = Runs (setting m s) L σ.steps (start (setting m s) L began) σ
+  StepsNamed began (running L σ) = Proper (setting m s) σ.part × Runs (setting m s) L σ.steps (start (setting m s) L began) σ
 
   -- What holds of a job after the calls of a history.
   pub record Right {es : List Entry} {j : Job} (h : History (setting m s) (limit_of s) es j) : Type 0 where
@@ -40,7 +40,8 @@ module _ (m : Meaning) (s : Sheet) where
     pub steps_named : StepsNamed (began_with (setting m s) h) j
     -- if the last call was a run and not refused, it made as many steps as its budget, or fewer and the search has ended or is full
     pub budget : LastBudgetKept (setting m s) es j
-    -- every learned ground is true at every list of limits, and all have their space in the ledger
+    -- every learned ground has the form of one and is true at every list of limits, and all have their space in the ledger
+    pub formed : AllByRecursion (WellFormed (setting m s)) (learned_of j)
     pub grounds : AllByRecursion (TrueGround m s) (learned_of j)
     pub space : (length (learned_of j) ≤ most_grounds) × (line_count (learned_of j) ≤ most_lines)
 
