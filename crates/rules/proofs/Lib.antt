@@ -11,6 +11,7 @@ pub mod Potential
 pub mod Ranges
 pub mod Agree
 pub mod Ending
+pub mod EndSaid
 pub mod Replies
 pub mod Shapes
 pub mod Merging

@@ -21,6 +21,7 @@ use Rattle.rules.proofs.CallHistories.{FoundRight, Counted, Kept, invariant, cou
 use Rattle.rules.proofs.ByPlace.{none_by_place, cheapest_by_place, closes_by_place, closes_under, sound_setting, setting_versions, amounts_near, true_by_place, best_by_place_keeps}
 use Rattle.rules.proofs.Counts.{counts_agree}
 use Rattle.rules.proofs.ClosingShapes.{shape_told}
+use Rattle.rules.proofs.EndSaid.{end_said, end_told, held_reported}
 
 module _ (m : Meaning) (w : SoundMeaning m) (s : Sheet) (f : Faultless m s) where
   abbrev S : Setting
@@ -59,7 +60,10 @@ module _ (m : Meaning) (w : SoundMeaning m) (s : Sheet) (f : Faultless m s) wher
         limits = all_limits S h;
         saying = says_true b es j k;
         shape = shape_told m s W (amounts_near m w s f) h;
+        end_said = end_said m s f.some_place h;
+        end_told = end_told m s f.some_place h;
         few_steps = n.0;
+        held = held_reported S h;
         steps_named = n.1;
         budget = last_budget S h;
         formed = All-weaker (Learnable S) (WellFormed S) (λ x l. (learnable_shaped S W greatest_amount (amounts_near m w s f) l).0) (learned_of j) g.0;
