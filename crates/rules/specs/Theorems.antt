@@ -1,14 +1,15 @@
 -- The theorems on the rules; each is the contract of a function. Assumes nothing.
-use Rattle.std.specs.Prelude.{◌≡◌, ℕ, ◌≤◌, false, List, [], map, reverse, None}
-use Rattle.std.specs.List.{AllByRecursion}
+use Rattle.std.specs.Prelude.{◌≡◌, ℕ, ◌≤◌, false, List, [], length, map, reverse, None, ◌≢◌}
+use Rattle.std.specs.List.{AllByRecursion, AllPairs, Contains}
 use Rattle.rules.specs.declared.lines.Line.{Line}
 use Rattle.rules.specs.declared.records.CallRecord.{CallRecord}
 use Rattle.rules.specs.declared.refusals.Refusal.{Refusal}
 use Rattle.rules.specs.declared.sheets.Sheet.{Sheet}
 use Rattle.rules.specs.Catalogues.{Meaning, SoundMeaning}
-use Rattle.rules.specs.Sheets.{Limits, limit_of, Any}
+use Rattle.rules.specs.Sheets.{Limits, limit_of, order_of, Any}
+use Rattle.rules.specs.Choices.{part_choices}
 use Rattle.rules.specs.Openings.{opening, Faultless}
-use Rattle.rules.specs.Grounds.{Setting, SoundSetting, Part, Ground, Learnable, Ordered, open_places, moved, learn_from}
+use Rattle.rules.specs.Grounds.{Setting, SoundSetting, Part, Ground, Learnable, Ordered, Proper, open_places, moved, learn_from}
 use Rattle.rules.specs.Search.{State, Outcome, Named, next}
 use Rattle.rules.specs.Calls.{Job, Call, Answer, refused, Does, reply}
 use Rattle.rules.specs.Histories.{Entry, History, unplayed, play}
@@ -56,6 +57,17 @@ pub record Learned (S : Setting) (t : Part) (pick : ℕ → Ground) (g : Ground)
 abbrev pub LearningLaw : Type 0
 LearningLaw =
     (S : Setting) → SoundSetting S → (t : Part) (pick : ℕ → Ground) → ((v : ℕ) → 1 ≤ v → v ≤ S.versions (open_places S t) → AllByRecursion (λ l. l.row ≤ S.last_row) (pick v)) → Learned S t pick (learn_from S t pick)
+
+-- A list of all part-choices, each once, is as long as is counted.
+pub record AllCounted (m : Meaning) (s : Sheet) (ps : List Part) : Type 0 where
+  pub proper : AllByRecursion (Proper (setting m s)) ps
+  pub each : (c : Part) → Proper (setting m s) c → Contains ps c
+  pub once : AllPairs (λ c d. c ≢ d) ps
+  pub counted : length ps ≡ part_choices m (order_of s)
+
+-- The part-choices stand in such a list.
+abbrev pub CountLaw : Type 0
+CountLaw = (m : Meaning) → SoundMeaning m → (s : Sheet) → Faultless m s → (ps : List Part) × AllCounted m s ps
 
 -- An opening finds a fault exactly when there is one.
 abbrev pub OpeningLaw : Type 0
