@@ -10,13 +10,28 @@ use Rattle.rules.specs.Refusals.{fault, fault_at}
 use Rattle.rules.specs.Catalogues.{Meaning}
 use Rattle.rules.specs.Sheets.{last_row, kind_of, limit_of, order_of, EachOnce}
 
+-- The sheet has as many places and rows as the catalogue.
+abbrev pub SameCounts : Meaning → Sheet → Type 0
+SameCounts m s = (m.places ≡ s.places) × (m.rows ≡ suc (last_row s))
+
+-- The same, worked out.
+abbrev pub counts_same : Meaning → Sheet → Bool
+counts_same m s = m.places == s.places && m.rows == suc (last_row s)
+
+-- Each row's kind has the number of one.
+abbrev pub KnownKinds : Sheet → Type 0
+KnownKinds s = (r : ℕ) → 1 ≤ r → r ≤ last_row s → (k : Kind) × (kind_number k ≡ kind_of s r)
+
+-- The kind of a row has the number of one, worked out.
+abbrev pub kind_known : Sheet → ℕ → Bool
+kind_known s r = is_some (kind_numbered (kind_of s r))
+
 -- A sheet and a catalogue with which a job opens without fault.
 pub record Faultless (m : Meaning) (s : Sheet) : Type 0 where
   pub some_place : 1 ≤ s.places
   pub few_places : s.places ≤ most_places
   pub few_rows : last_row s ≤ greatest_row
-  -- each row's kind has the number of one
-  pub kinds : (r : ℕ) → 1 ≤ r → r ≤ last_row s → (k : Kind) × (kind_number k ≡ kind_of s r)
+  pub kinds : KnownKinds s
   pub limits : (r : ℕ) → r ≤ last_row s → unsigned_abs (limit_of s r) ≤ greatest_limit
   pub order : EachOnce s.places (order_of s)
   -- the catalogue has as many places and rows as the sheet
@@ -49,7 +64,7 @@ limit_test s r = test (nat_le (unsigned_abs (limit_of s r)) greatest_limit) (fau
 
 -- The tests of a row: its kind, and its limit.
 abbrev pub row_tests : Sheet → ℕ → List (Option Fault)
-row_tests s r = test (is_some (kind_numbered (kind_of s r))) (fault UnknownKind) ∷ limit_test s r ∷ []
+row_tests s r = test (kind_known s r) (fault UnknownKind) ∷ limit_test s r ∷ []
 
 -- The tests of the amounts of a version of a place, row by row from the price on.
 abbrev pub amount_tests : Meaning → ℕ → ℕ → List (Option Fault)
@@ -62,7 +77,7 @@ tests m s =
     ∷ limit_test s 0
     ∷ (each_to (row_tests s) (last_row s)
     ++ (test (length (order_of s) == s.places && contains_all s.places (order_of s)) (fault OrderNotOnce)
-    ∷ test (m.places == s.places && m.rows == suc (last_row s)) (fault_at CountsDiffer m.places 0 m.rows)
+    ∷ test (counts_same m s) (fault_at CountsDiffer m.places 0 m.rows)
     ∷ each_to (λ q. each_to (λ v. amount_tests m q v) (m.versions q)) m.places))
 
 -- The first fault that tests found.
