@@ -5,7 +5,7 @@ use Rattle.std.proofs.ByRecursion.{All-append, All-weaker}
 use Rattle.std.proofs.lemmas.List.Elements.{All-from_recursion}
 use Rattle.std.proofs.lemmas.List.Kept.{AllPairs-cons}
 use Rattle.std.proofs.lemmas.Bool.{cases_lt}
-use Rattle.rules.specs.Sheets.{order_of}
+use Rattle.rules.specs.Sheets.{order_of, AnyByRecursion}
 use Rattle.rules.specs.Openings.{each_to}
 use Rattle.rules.specs.Grounds.{Part, Proper, Setting, open_places}
 use Rattle.rules.specs.Settings.{setting}
@@ -56,8 +56,7 @@ apart_pairs (c ∷ cs) h = AllPairs-cons (λ c d. c ≡ d → ⊥) c cs (All-fro
 
 -- a part-choice is in a list
 abbrev IsIn : Part → List Part → Type 0
-IsIn c [] = ⊥
-IsIn c (d ∷ ds) = (d ≡ c) ⊎ IsIn c ds
+IsIn c ds = AnyByRecursion (λ d. d ≡ c) ds
 
 in_left : (c : Part) (cs ds : List Part) → IsIn c cs → IsIn c (cs ++ ds)
 in_left c [] ds h = absurd h

@@ -1,5 +1,6 @@
 -- What is tested when a job is opened with a sheet and a catalogue. Assumes nothing.
-use Rattle.std.specs.Prelude.{◌≡◌, ℕ, zero, suc, ◌-◌, ◌≤◌, Bool, true, false, if◌then◌else◌, ◌&&◌, ◌||◌, List, [], ◌∷◌, ◌++◌, length, is_some, Some, None, Option, ◌==◌, nat_le, unsigned_abs}
+use Rattle.std.specs.Prelude.{◌≡◌, ℕ, zero, suc, ◌-◌, ◌≤◌, Bool, true, if◌then◌else◌, ◌&&◌, List, [], ◌∷◌, ◌++◌, length, is_some, Some, None, Option, ◌==◌, nat_le, unsigned_abs}
+use Rattle.std.specs.List.{list_any}
 use Rattle.rules.specs.declared.kinds.Kind.{Kind}
 use Rattle.rules.specs.declared.refusals.Fault.{Fault}
 use Rattle.rules.specs.declared.refusals.Refusal.TheVariants.{CountOutside, UnknownKind, LimitBeyond, OrderNotOnce, CountsDiffer, AmountBeyond}
@@ -50,8 +51,7 @@ test good f = if good then None else Some f
 
 -- A number is in a list.
 abbrev pub contains : ℕ → List ℕ → Bool
-contains q [] = false
-contains q (x ∷ xs) = x == q || contains q xs
+contains q xs = list_any (λ x. x == q) xs
 
 -- Each number from 1 up to one is in the list.
 abbrev pub contains_all : ℕ → List ℕ → Bool

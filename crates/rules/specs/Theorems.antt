@@ -6,7 +6,7 @@ use Rattle.rules.specs.declared.records.CallRecord.{CallRecord}
 use Rattle.rules.specs.declared.refusals.Refusal.{Refusal}
 use Rattle.rules.specs.declared.sheets.Sheet.{Sheet}
 use Rattle.rules.specs.Catalogues.{Meaning, SoundMeaning}
-use Rattle.rules.specs.Sheets.{Limits, limit_of, order_of, Any}
+use Rattle.rules.specs.Sheets.{Limits, limit_of, order_of, AnyByRecursion}
 use Rattle.rules.specs.Choices.{part_choices}
 use Rattle.rules.specs.Openings.{opening, Faultless}
 use Rattle.rules.specs.Grounds.{Setting, SoundSetting, Part, Ground, Learnable, Ordered, Proper, open_places, moved, learn_from}
@@ -50,8 +50,8 @@ Replaces S l k = (l.row ≡ k.row) × (l.level ≡ k.level) × ((S.joining l.row
 -- What a ground has in it that is learned after t from a ground for each version there: the moved lines of those grounds, and of two at one place the one whose constant isn't worse.
 pub record Learned (S : Setting) (t : Part) (pick : ℕ → Ground) (g : Ground) : Type 0 where
   pub ordered : Ordered g
-  pub taken_over : AllByRecursion (λ l. (v : ℕ) × (1 ≤ v) × (v ≤ S.versions (open_places S t)) × Any (λ k. l ≡ moved S t v k) (pick v)) g
-  pub replaced : (v : ℕ) → 1 ≤ v → v ≤ S.versions (open_places S t) → AllByRecursion (λ k. Any (λ l. Replaces S l (moved S t v k)) g) (pick v)
+  pub taken_over : AllByRecursion (λ l. (v : ℕ) × (1 ≤ v) × (v ≤ S.versions (open_places S t)) × AnyByRecursion (λ k. l ≡ moved S t v k) (pick v)) g
+  pub replaced : (v : ℕ) → 1 ≤ v → v ≤ S.versions (open_places S t) → AllByRecursion (λ k. AnyByRecursion (λ l. Replaces S l (moved S t v k)) g) (pick v)
 
 -- A ground is learned from grounds over the setting's rows as the rules say.
 abbrev pub LearningLaw : Type 0
