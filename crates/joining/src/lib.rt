@@ -41,9 +41,10 @@ pub trait Joining {
 #[cfg(test)]
 mod tests {
     use super::*;
+    use rules::AMOUNT_REACH;
     use std::process::Abort;
 
-    const REACH: i64 = 1 << 40;
+    const REACH: i64 = AMOUNT_REACH as i64;
 
     // The two kinds that add differ in their order only.
     fn check_sums<J: Joining>(rt: &impl Abort) {
