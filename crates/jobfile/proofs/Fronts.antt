@@ -16,7 +16,7 @@ use Rattle.rules.proofs.TestLists.{Passed, test_passed, each_at}
 use Rattle.rules.proofs.Asked.{Fits as Asks, asked_fits}
 use Rattle.jobfile.specs.Bounds.{most_calls}
 use Rattle.jobfile.specs.Stated.{LadderStated, PlaceStated, Stated}
-use Rattle.jobfile.specs.Writing.{Entry, order, version, ladder, call, version_entries, listed_entries, ladder_entries, early_entries, entries}
+use Rattle.jobfile.specs.Writing.{FieldEntry, order, version, ladder, call, version_entries, listed_entries, ladder_entries, early_entries, entries}
 use Rattle.jobfile.specs.Validity.{ValidVersion, ValidPlace, ValidLadder, ValidCall}
 use Rattle.jobfile.specs.Reading.{held, row_amount_tests, content_tests, with_entry, no_rung, rung_amount}
 use Rattle.jobfile.specs.Refusing.{Late}
@@ -43,11 +43,11 @@ listed_empty q [] = refl
 listed_empty q (p ∷ ps) = ap (λ t. version_entries q p ++ t) (listed_empty (suc q) ps)
 
 -- the fields after the order
-abbrev tail : Stated → List Entry
+abbrev tail : Stated → List FieldEntry
 tail j = listed_entries 1 j.listed ++ (ladder_entries (suc (length j.listed)) j.ladders ++ map call j.calls)
 
 -- one field more after the order
-push_tail : (early : List Entry) (o : Entry) (t u : List Entry) (e : Entry) → u ≡ t ++ (e ∷ []) → early ++ (o ∷ u) ≡ (early ++ (o ∷ t)) ++ (e ∷ [])
+push_tail : (early : List FieldEntry) (o : FieldEntry) (t u : List FieldEntry) (e : FieldEntry) → u ≡ t ++ (e ∷ []) → early ++ (o ∷ u) ≡ (early ++ (o ∷ t)) ++ (e ∷ [])
 push_tail early o t u e h = ap (λ x. early ++ (o ∷ x)) h ∙ sym (append_assoc early (o ∷ t) (e ∷ []))
 
 -- ---- versions

@@ -17,7 +17,7 @@ use Rattle.jobfile.specs.declared.fields.Section.{Section}
 use Rattle.jobfile.specs.declared.fields.Section.TheVariants as section
 use Rattle.jobfile.specs.Bounds.{most_bytes, most_calls}
 use Rattle.jobfile.specs.Stated.{RungStated, PlaceStated, Stated}
-use Rattle.jobfile.specs.Writing.{Entry, sheet, row, order, version, ladder, call}
+use Rattle.jobfile.specs.Writing.{FieldEntry, sheet, row, order, version, ladder, call}
 
 -- How far a file is read: its section, and the job as far as it is stated.
 pub record Reading : Type 0 where
@@ -80,7 +80,7 @@ field_length j field.Ladder = 10 + 8 * j.last_row
 field_length j field.Call = 6
 
 -- What the body of a field says.
-abbrev pub decode : Stated → Field → List ℕ → Entry
+abbrev pub decode : Stated → Field → List ℕ → FieldEntry
 decode j field.Sheet bs = sheet (slice_index bs 0) (slice_index bs 1) (number_at bs 2)
 decode j field.Row bs = row (record { kind = slice_index bs 0; limit = number_at bs 1 })
 decode j field.Order bs = order bs
@@ -149,7 +149,7 @@ abbrev pub call_tests : ℕ → Request → ℕ → List (Option Fault)
 call_tests calls r at = test (nat_lt calls most_calls && is_some (asked r)) (fault_in NoCall at 0 0 0) ∷ []
 
 -- The tests of what a field says, by rising number; the field begins at a byte.
-abbrev pub content_tests : Stated → Entry → ℕ → List (Option Fault)
+abbrev pub content_tests : Stated → FieldEntry → ℕ → List (Option Fault)
 content_tests j (sheet n m cap) at = sheet_tests n m cap at
 content_tests j (row r) at = row_tests r.kind r.limit at
 content_tests j (order ps) at = order_tests j.places ps at
@@ -158,7 +158,7 @@ content_tests j (ladder q l) at = ladder_tests j.places j.last_row (length j.lis
 content_tests j (call r) at = call_tests (length j.calls) r at
 
 -- The job with what a field adds; a sheet and an order have nothing after them yet.
-abbrev pub with_entry : Stated → Entry → Stated
+abbrev pub with_entry : Stated → FieldEntry → Stated
 with_entry j (sheet n m cap) = record { places = n; last_row = m; cap = cap; rows = []; order = []; listed = []; ladders = []; calls = [] }
 with_entry j (row r) =
     record { places = j.places; last_row = j.last_row; cap = j.cap; rows = j.rows ++ (r ∷ []); order = j.order; listed = j.listed; ladders = j.ladders; calls = j.calls }
