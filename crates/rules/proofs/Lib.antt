@@ -24,6 +24,7 @@ pub mod ClosingShapes
 pub mod Rights
 pub mod TestLists
 pub mod OpeningTests
+pub mod FirstFaults
 pub mod PartChoices
 pub mod Asked
 pub mod Works

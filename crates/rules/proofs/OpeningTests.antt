@@ -12,7 +12,6 @@ use Rattle.rules.specs.Catalogues.{Meaning}
 use Rattle.rules.specs.Sheets.{kind_of, last_row, limit_of, order_of}
 use Rattle.rules.specs.Refusals.{fault, fault_at}
 use Rattle.rules.specs.Openings.{Faultless, amount_tests, contains_all, each_to, limit_test, opening, row_tests, test, tests}
-use Rattle.rules.specs.Theorems.{OpeningLaw}
 use Rattle.rules.proofs.TestLists.{Passed, all_passed, none_first, test_passed, passed_test, all_left, all_right, each_at, each_all, all_contained, contained_all}
 use Rattle.rules.proofs.KindNumbers.{kind_there, there_kind}
 
@@ -74,6 +73,3 @@ module _ (m : Meaning) (s : Sheet) where
       let once = passed_test _ (fault OrderNotOnce) (and_from _ _ (eq-eqb _ _ f.order.0) (contained_all s.places (order_of s) f.order.1)) in
       let same = passed_test _ (fault_at CountsDiffer m.places 0 m.rows) (and_from _ _ (eq-eqb _ _ f.same_places) (eq-eqb _ _ f.same_rows)) in
       none_first (tests m s) (counts, (limit 0 (omega arith), All-append Passed (each_to (row_tests s) (last_row s)) (_ ∷ _ ∷ amounts_tested) rows (once, (same, amounts))))
-
-pub opening_law : OpeningLaw
-opening_law m s = (none_faultless m s, faultless_none m s)

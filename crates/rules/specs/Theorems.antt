@@ -1,14 +1,15 @@
 -- The theorems on the rules; each is the contract of a function. Assumes nothing.
-use Rattle.std.specs.Prelude.{◌≡◌, ℕ, ◌≤◌, false, List, [], length, map, reverse, None, ◌≢◌}
+use Rattle.std.specs.Prelude.{◌≡◌, ℕ, ◌≤◌, false, List, [], length, map, reverse, Some, None, ◌≢◌}
 use Rattle.std.specs.List.{AllByRecursion, AllPairs, Contains}
 use Rattle.rules.specs.declared.lines.Line.{Line}
 use Rattle.rules.specs.declared.records.CallRecord.{CallRecord}
+use Rattle.rules.specs.declared.refusals.Fault.{Fault}
 use Rattle.rules.specs.declared.refusals.Refusal.{Refusal}
 use Rattle.rules.specs.declared.sheets.Sheet.{Sheet}
 use Rattle.rules.specs.Catalogues.{Meaning, SoundMeaning}
 use Rattle.rules.specs.Sheets.{Limits, limit_of, order_of, AnyByRecursion}
 use Rattle.rules.specs.Choices.{part_choices}
-use Rattle.rules.specs.Openings.{opening, Faultless}
+use Rattle.rules.specs.Openings.{opening, Faultless, FaultFound}
 use Rattle.rules.specs.Grounds.{Setting, SoundSetting, Part, Ground, Learnable, Ordered, Proper, open_places, moved, learn_from}
 use Rattle.rules.specs.Search.{State, Outcome, Named, next}
 use Rattle.rules.specs.Calls.{Job, Call, Answer, refused, Does, reply}
@@ -69,9 +70,14 @@ pub record AllCounted (m : Meaning) (s : Sheet) (ps : List Part) : Type 0 where
 abbrev pub CountLaw : Type 0
 CountLaw = (m : Meaning) → SoundMeaning m → (s : Sheet) → Faultless m s → (ps : List Part) × AllCounted m s ps
 
--- An opening finds a fault exactly when there is one.
+-- An opening finds no fault exactly when there is none, and else that of the first test that fails.
 abbrev pub OpeningLaw : Type 0
-OpeningLaw = (m : Meaning) (s : Sheet) → (opening m s ≡ None → Faultless m s) × (Faultless m s → opening m s ≡ None)
+OpeningLaw =
+    (m : Meaning) (s : Sheet) →
+    record {
+      none : (opening m s ≡ None → Faultless m s) × (Faultless m s → opening m s ≡ None);
+      first : (f : Fault) → (opening m s ≡ Some f → FaultFound m s f) × (FaultFound m s f → opening m s ≡ Some f);
+    }
 
 -- With every catalogue that keeps its bounds and every sheet with which a job opens without fault, along every history of calls, what is promised holds at every time.
 abbrev pub PromiseLaw : Type 0

@@ -37,7 +37,7 @@ pub fn count_law()
     ensures { CountLaw }
 {}
 
-// An opening finds a fault exactly when there is one.
+// An opening finds no fault exactly when there is none, and else that of the first test that fails.
 pub fn opening_law()
     ensures { OpeningLaw }
 {}
