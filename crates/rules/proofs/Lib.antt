@@ -25,6 +25,7 @@ pub mod TestLists
 pub mod Counted
 pub mod Filled
 pub mod TestLoops
+pub mod AmountTests
 pub mod OpeningTests
 pub mod Asked
 pub mod Works
