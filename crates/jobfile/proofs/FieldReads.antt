@@ -4,11 +4,11 @@ use Rattle.std.specs.List.{AllByRecursion}
 use Rattle.std.proofs.lemmas.List.{take_at}
 use Rattle.std.proofs.lemmas.Bool.{eqb-true, eq-eqb, leb-true, le-leb, cond-true}
 use Rattle.rules.specs.declared.refusals.Fault.{Fault}
-use Rattle.rules.specs.Openings.{first_fault}
+use Rattle.rules.specs.Openings.{first_fault, after_tests}
 use Rattle.rules.proofs.TestLists.{Passed, all_passed, none_first}
 use Rattle.jobfile.specs.Writing.{FieldEntry, field_of, tag_of, body, field_bytes}
-use Rattle.jobfile.specs.Reading.{Reading, Announced, next, announced, FieldRead, field_length, decode, content_tests, with_entry, after_tests, read_rest, read_announced, read_field}
-use Rattle.jobfile.proofs.TestLoops.{passed_tests}
+use Rattle.jobfile.specs.Reading.{Reading, Announced, next, announced, FieldRead, field_length, decode, content_tests, with_entry, read_rest, read_announced, read_field}
+use Rattle.rules.proofs.TestLoops.{passed_tests}
 use Rattle.jobfile.proofs.Announcing.{announced_as}
 use Rattle.jobfile.proofs.Codec.{Bytes, bytes_take}
 use Rattle.jobfile.proofs.Decoding.{Shaped, Fits, field_decoded, body_decoded, decoded_body, length_body, shaped_decoded, fits_decoded}

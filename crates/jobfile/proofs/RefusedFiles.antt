@@ -4,15 +4,15 @@ use Rattle.std.proofs.lemmas.List.{take-append-drop}
 use Rattle.std.proofs.lemmas.Bool.{leb-true, leb-false, le-leb, eqb-true, eqb-false, cond-true, cond-false}
 use Rattle.rules.specs.declared.refusals.Fault.{Fault}
 use Rattle.rules.specs.declared.refusals.Refusal.TheVariants.{TagNotAllowed, CountsDiffer}
-use Rattle.rules.specs.Openings.{first_fault}
+use Rattle.rules.specs.Openings.{first_fault, after_tests}
 use Rattle.rules.specs.Refusals.{fault_in}
 use Rattle.rules.proofs.Bools.{split}
 use Rattle.jobfile.specs.Bounds.{most_bytes}
 use Rattle.jobfile.specs.Writing.{FieldEntry, field_bytes, bytes_of}
-use Rattle.jobfile.specs.Reading.{Reading, fresh, Announced, next, announced, field_length, decode, content_tests, after_tests, and_then, FieldRead, read_rest, read_announced, read_field, read_fields, early, finish, read}
+use Rattle.jobfile.specs.Reading.{Reading, fresh, Announced, next, announced, field_length, decode, content_tests, and_then, FieldRead, read_rest, read_announced, read_field, read_fields, early, finish, read}
 use Rattle.jobfile.specs.Refusing.{FirstFailing, FieldFails, head_cut, tag_wrong, length_wrong, body_cut, contents_wrong, Refused, too_long, at_field, no_order, places_missing}
 use Rattle.jobfile.specs.Theorems.{RefusedLaw}
-use Rattle.jobfile.proofs.TestLoops.{failed_tests}
+use Rattle.rules.proofs.TestLoops.{failed_tests}
 use Rattle.jobfile.proofs.Codec.{Bytes, bytes_drop}
 use Rattle.jobfile.proofs.FieldReads.{refused_ok, says, field_reads}
 use Rattle.jobfile.proofs.FileRuns.{read_runs}

@@ -1,5 +1,5 @@
 -- The fault that an opening finds is that of the first test that fails. Assumes nothing.
-use Rattle.std.proofs.Common.{◌≡◌, ℕ, zero, suc, ◌-◌, ◌<◌, ◌≤◌, ◌⊎◌, Bool, true, false, eqb, leb, ltb, ◌&&◌, List, [], ◌∷◌, ◌++◌, length, nat_abs, is_some, Some, None, Option, sym, refl, ap, ◌∙◌, subst, inl, inr, arith}
+use Rattle.std.proofs.Common.{◌≡◌, ℕ, zero, suc, ◌-◌, ◌<◌, ◌≤◌, ◌⊎◌, Bool, true, false, eqb, leb, ltb, ◌&&◌, List, [], ◌∷◌, ◌++◌, length, nat_abs, is_some, Some, None, Option, sym, refl, ap, ◌∙◌, subst, inl, inr, append_assoc, arith}
 use Rattle.std.specs.Bool.{Decides}
 use Rattle.std.specs.List.{AllByRecursion}
 use Rattle.std.proofs.lemmas.Bool.Decides.{Decides-eqb, not_from_Decides}
@@ -12,7 +12,7 @@ use Rattle.rules.specs.Joinings.{kind_numbered}
 use Rattle.rules.specs.Catalogues.{Meaning, has_amount, has_place}
 use Rattle.rules.specs.Sheets.{EachOnce, kind_of, last_row, limit_of, order_of}
 use Rattle.rules.specs.Refusals.{fault, fault_at}
-use Rattle.rules.specs.Openings.{AmountWithin, ComesBefore, CountsWithin, FaultFound, KnownKind, LimitWithin, RowsPass, SameCounts, amount_beyond, amount_tests, cap_beyond, contains_all, counts_differ, counts_outside, counts_same, each_to, first_fault, kind_known, kind_unknown, limit_beyond, limit_test, opening, order_wrong, row_tests, test}
+use Rattle.rules.specs.Openings.{AmountWithin, ComesBefore, CountsWithin, FaultFound, KnownKind, LimitWithin, RowsPass, SameCounts, amount_beyond, cap_beyond, contains_all, counts_differ, counts_outside, counts_same, each_to, first_fault, place_tests, version_tests, order_test, kind_known, kind_unknown, limit_beyond, limit_test, opening, order_wrong, row_tests, test}
 use Rattle.rules.specs.Theorems.{OpeningLaw}
 use Rattle.rules.proofs.Bools.{split, clash}
 use Rattle.rules.proofs.TestLists.{Passed, all_contained, contained_all, each_all, each_at, passed_test, test_passed}
@@ -72,6 +72,9 @@ fails_of : {P : Type 0} (b : Bool) → Decides b P → (P → ⊥) → b ≡ fal
 fails_of b d n = split b (λ e. absurd (n (d.0 e))) (λ e. e)
 
 module _ (s : Sheet) where
+  abbrev row_tests_at : ℕ → List (Option Fault)
+  row_tests_at r = row_tests (kind_of s r) (limit_of s r)
+
   -- what the tests of a sheet are true of
   abbrev counts_kept : Bool
   counts_kept = leb 1 s.places && (leb s.places most_places && leb (last_row s) greatest_row)
@@ -94,26 +97,26 @@ module _ (s : Sheet) where
     λ h. and_from _ _ ((Decides-eqb _ _).1 h.0) (contained_all s.places (order_of s) h.1),
   )
 
-  rows_pass : (j : ℕ) → CountsWithin s → LimitWithin s 0 → AllByRecursion Passed (each_to (row_tests s) j) → RowsPass s j
+  rows_pass : (j : ℕ) → CountsWithin s → LimitWithin s 0 → AllByRecursion Passed (each_to row_tests_at j) → RowsPass s j
   rows_pass j c k h =
       record {
         counts = c;
         cap = k;
         rows = λ r a b.
-            let x = each_at Passed (row_tests s) j h r a b in
+            let x = each_at Passed row_tests_at j h r a b in
             ((kind_decided r).0 (test_passed (kind_known s r) (fault UnknownKind) x.0), (limit_decided r).0 (test_passed _ (fault LimitBeyond) x.1.0));
       }
 
-  pass_rows : (j : ℕ) → RowsPass s j → AllByRecursion Passed (each_to (row_tests s) j)
+  pass_rows : (j : ℕ) → RowsPass s j → AllByRecursion Passed (each_to row_tests_at j)
   pass_rows j p =
-      each_all Passed (row_tests s) j (λ r a b. let x = p.rows r a b in (passed_test _ (fault UnknownKind) ((kind_decided r).1 x.0), (passed_test _ (fault LimitBeyond) ((limit_decided r).1 x.1), tt)))
+      each_all Passed row_tests_at j (λ r a b. let x = p.rows r a b in (passed_test _ (fault UnknownKind) ((kind_decided r).1 x.0), (passed_test _ (fault LimitBeyond) ((limit_decided r).1 x.1), tt)))
 
 module _ (m : Meaning) where
   abbrev at_version : ℕ → ℕ → ℕ → List (Option Fault)
   at_version q v k = test (leb (nat_abs (m.amount (k - 1) q v)) greatest_amount) (fault_at AmountBeyond q v (k - 1)) ∷ []
 
   abbrev at_place : ℕ → List (Option Fault)
-  at_place q = each_to (amount_tests m q) (m.versions q)
+  at_place q = place_tests m q
 
   there : (row q v : ℕ) → row < m.rows → 1 ≤ q → q ≤ m.places → 1 ≤ v → v ≤ m.versions q → has_amount m row q v ≡ true
   there row q v a b c d e =
@@ -143,12 +146,12 @@ module _ (m : Meaning) where
       each_all Passed (at_version q v) n (λ k a b. (passed_test _ (fault_at AmountBeyond q v (k - 1)) (le-leb _ _ (h (k - 1) (omega arith))), tt))
 
   -- the amounts that pass before one that fails
-  before_first : (a b c : ℕ) → AllByRecursion Passed (each_to at_place a) → AllByRecursion Passed (each_to (amount_tests m (suc a)) b) → AllByRecursion Passed (each_to (at_version (suc a) (suc b)) c) → (p u k : ℕ) → There k p u → ComesBefore p u k (suc a) (suc b) c → AmountWithin m k p u
+  before_first : (a b c : ℕ) → AllByRecursion Passed (each_to at_place a) → AllByRecursion Passed (each_to (version_tests m (suc a)) b) → AllByRecursion Passed (each_to (at_version (suc a) (suc b)) c) → (p u k : ℕ) → There k p u → ComesBefore p u k (suc a) (suc b) c → AmountWithin m k p u
   before_first a b c h i j p u k t (inl l) =
       let x : AllByRecursion Passed (at_place p) = each_at Passed at_place a h p t.placed.0 (omega (arith, l)) in
-      amount_passed p u m.rows k t.few (each_at Passed (amount_tests m p) (m.versions p) x u t.known.0 t.known.1)
+      amount_passed p u m.rows k t.few (each_at Passed (version_tests m p) (m.versions p) x u t.known.0 t.known.1)
   before_first a b c h i j p u k t (inr (e, inl l)) =
-      let x : AllByRecursion Passed (amount_tests m (suc a) u) = each_at Passed (amount_tests m (suc a)) b i u t.known.0 (omega (arith, l)) in
+      let x : AllByRecursion Passed (version_tests m (suc a) u) = each_at Passed (version_tests m (suc a)) b i u t.known.0 (omega (arith, l)) in
       subst (λ z. AmountWithin m k z u) (sym e) (amount_passed (suc a) u m.rows k t.few x)
   before_first a b c h i j p u k t (inr (e, inr (d, l))) =
       subst (λ z. AmountWithin m k z u) (sym e) (subst (λ z. AmountWithin m k (suc a) z) (sym d) (amount_passed (suc a) (suc b) c k l j))
@@ -166,7 +169,7 @@ module _ (m : Meaning) where
   amount_found f h =
       let a = first_each at_place m.places f h in
       let q : ℕ = suc a.0 in
-      let b = first_each (amount_tests m q) (m.versions q) f a.3 in
+      let b = first_each (version_tests m q) (m.versions q) f a.3 in
       let v : ℕ = suc b.0 in
       let c = first_each (at_version q v) m.rows f b.3 in
       let e : suc c.0 - 1 ≡ c.0 = omega arith in
@@ -197,9 +200,9 @@ module _ (m : Meaning) where
       (fails (leb (nat_abs (m.amount row q v)) greatest_amount) f [] (fails_of _ (leb-true _ _, le-leb _ _) n))
       in
       fails_each at_place m.places a f (omega (arith, r.placed.1))
-      (each_all Passed at_place a (λ p c d. each_all Passed (amount_tests m p) (m.versions p) (λ u g h. passed_amounts p u m.rows (λ k l. before p u k (there k p u l c (omega (arith, r.placed.1)) g h) (inl (omega arith))))))
-      (fails_each (amount_tests m q) (m.versions q) b f (omega (arith, r.known.1))
-      (each_all Passed (amount_tests m q) b (λ u g h. passed_amounts q u m.rows (λ k l. before q u k (there k q u l r.placed.0 r.placed.1 g (omega (arith, r.known.1))) (inr (refl, inl (omega arith))))))
+      (each_all Passed at_place a (λ p c d. each_all Passed (version_tests m p) (m.versions p) (λ u g h. passed_amounts p u m.rows (λ k l. before p u k (there k p u l c (omega (arith, r.placed.1)) g h) (inl (omega arith))))))
+      (fails_each (version_tests m q) (m.versions q) b f (omega (arith, r.known.1))
+      (each_all Passed (version_tests m q) b (λ u g h. passed_amounts q u m.rows (λ k l. before q u k (there k q u l r.placed.0 r.placed.1 g (omega (arith, r.known.1))) (inr (refl, inl (omega arith))))))
       (fails_each (at_version q v) m.rows row f r.few
       (passed_amounts q v row (λ k l. before q v k (there k q v (omega (arith, r.few)) r.placed.0 r.placed.1 r.known.0 r.known.1) (inr (refl, inr (refl, l)))))
       last))
@@ -212,15 +215,22 @@ module _ (m : Meaning) (s : Sheet) where
   abbrev after_rows : List (Option Fault)
   after_rows = test (eqb (length (order_of s)) s.places && contains_all s.places (order_of s)) (fault OrderNotOnce) ∷ counts_and_amounts
 
+  -- the tests of an opening, with those of the rows at the front of those that follow
+  in_order : opening m s ≡ first_fault (test (counts_kept s) (fault CountOutside) ∷ limit_test (limit_of s 0) ∷ (each_to (row_tests_at s) (last_row s) ++ after_rows))
+  unfolding opening
+  in_order =
+      ap (λ ts. first_fault (test (counts_kept s) (fault CountOutside) ∷ limit_test (limit_of s 0) ∷ ts))
+      (append_assoc (each_to (row_tests_at s) (last_row s)) (order_test s ∷ []) counts_and_amounts)
+
   same_decided : Decides (counts_same m s) (SameCounts m s)
   same_decided = (
     λ e. let a = and_parts (eqb m.places s.places) (eqb m.rows (suc (last_row s))) e in ((Decides-eqb _ _).0 a.0, (Decides-eqb _ _).0 a.1),
     λ h. and_from _ _ ((Decides-eqb _ _).1 h.0) ((Decides-eqb _ _).1 h.1),
   )
 
-  row_found : (j : ℕ) → j < last_row s → RowsPass s j → (f : Fault) → first_fault (row_tests s (suc j)) ≡ Some f → FaultFound m s f
+  row_found : (j : ℕ) → j < last_row s → RowsPass s j → (f : Fault) → first_fault (row_tests_at s (suc j)) ≡ Some f → FaultFound m s f
   row_found j l p f h =
-      elim (first_test (kind_known s (suc j)) (fault UnknownKind) f (limit_test s (suc j) ∷ []) h) [
+      elim (first_test (kind_known s (suc j)) (fault UnknownKind) f (limit_test (limit_of s (suc j)) ∷ []) h) [
         | inl x ↦ subst (FaultFound m s) x.1 (kind_unknown j l p (not_from_Decides _ (kind_decided s (suc j)) x.0))
         | inr x ↦ elim (first_test (leb (nat_abs (limit_of s (suc j))) greatest_limit) (fault LimitBeyond) f [] x.1) [
           | inl y ↦ subst (FaultFound m s) y.1 (limit_beyond j l p ((kind_decided s (suc j)).0 x.0) (not_from_Decides _ (limit_decided s (suc j)) y.0))
@@ -243,19 +253,18 @@ module _ (m : Meaning) (s : Sheet) where
         ]
       ]
 
-  rows_found : CountsWithin s → LimitWithin s 0 → (f : Fault) → first_fault (each_to (row_tests s) (last_row s) ++ after_rows) ≡ Some f → FaultFound m s f
+  rows_found : CountsWithin s → LimitWithin s 0 → (f : Fault) → first_fault (each_to (row_tests_at s) (last_row s) ++ after_rows) ≡ Some f → FaultFound m s f
   rows_found c k f h =
-      elim (first_append (each_to (row_tests s) (last_row s)) after_rows f h) [
-        | inl x ↦ let r = first_each (row_tests s) (last_row s) f x in row_found r.0 r.1 (rows_pass s r.0 c k r.2) f r.3
+      elim (first_append (each_to (row_tests_at s) (last_row s)) after_rows f h) [
+        | inl x ↦ let r = first_each (row_tests_at s) (last_row s) f x in row_found r.0 r.1 (rows_pass s r.0 c k r.2) f r.3
         | inr x ↦ after_rows_found (rows_pass s (last_row s) c k x.0) f x.1
       ]
 
   found : (f : Fault) → opening m s ≡ Some f → FaultFound m s f
-  unfolding opening
   found f h =
-      elim (first_test (counts_kept s) (fault CountOutside) f (limit_test s 0 ∷ (each_to (row_tests s) (last_row s) ++ after_rows)) h) [
+      elim (first_test (counts_kept s) (fault CountOutside) f (limit_test (limit_of s 0) ∷ (each_to (row_tests_at s) (last_row s) ++ after_rows)) (sym in_order ∙ h)) [
         | inl x ↦ subst (FaultFound m s) x.1 (counts_outside (not_from_Decides _ (counts_decided s) x.0))
-        | inr x ↦ elim (first_test (leb (nat_abs (limit_of s 0)) greatest_limit) (fault LimitBeyond) f (each_to (row_tests s) (last_row s) ++ after_rows) x.1) [
+        | inr x ↦ elim (first_test (leb (nat_abs (limit_of s 0)) greatest_limit) (fault LimitBeyond) f (each_to (row_tests_at s) (last_row s) ++ after_rows) x.1) [
           | inl y ↦ subst (FaultFound m s) y.1 (cap_beyond ((counts_decided s).0 x.0) (not_from_Decides _ (limit_decided s 0) y.0))
           | inr y ↦ rows_found ((counts_decided s).0 x.0) ((limit_decided s 0).0 y.0) f y.1
         ]
@@ -263,20 +272,17 @@ module _ (m : Meaning) (s : Sheet) where
 
   -- past the rows, with the counts and the cap kept
   past_rows : RowsPass s (last_row s) → {o : Option Fault} → first_fault after_rows ≡ o → opening m s ≡ o
-  unfolding opening
   past_rows p h =
-      passes _ (fault CountOutside) _ ((counts_decided s).1 p.counts) (passes _ (fault LimitBeyond) _ ((limit_decided s 0).1 p.cap) (fails_right (each_to (row_tests s) (last_row s)) after_rows (pass_rows s (last_row s) p) h))
+      in_order ∙ passes _ (fault CountOutside) _ ((counts_decided s).1 p.counts) (passes _ (fault LimitBeyond) _ ((limit_decided s 0).1 p.cap) (fails_right (each_to (row_tests_at s) (last_row s)) after_rows (pass_rows s (last_row s) p) h))
 
-  at_row : (r : ℕ) → r < last_row s → RowsPass s r → (f : Fault) → first_fault (row_tests s (suc r)) ≡ Some f → opening m s ≡ Some f
-  unfolding opening
+  at_row : (r : ℕ) → r < last_row s → RowsPass s r → (f : Fault) → first_fault (row_tests_at s (suc r)) ≡ Some f → opening m s ≡ Some f
   at_row r l p f h =
-      passes _ (fault CountOutside) _ ((counts_decided s).1 p.counts) (passes _ (fault LimitBeyond) _ ((limit_decided s 0).1 p.cap)
-      (fails_left (each_to (row_tests s) (last_row s)) after_rows f (fails_each (row_tests s) (last_row s) r f l (pass_rows s r p) h)))
+      in_order ∙ passes _ (fault CountOutside) _ ((counts_decided s).1 p.counts) (passes _ (fault LimitBeyond) _ ((limit_decided s 0).1 p.cap)
+      (fails_left (each_to (row_tests_at s) (last_row s)) after_rows f (fails_each (row_tests_at s) (last_row s) r f l (pass_rows s r p) h)))
 
   found_first : (f : Fault) → FaultFound m s f → opening m s ≡ Some f
-  unfolding opening
-  found_first f (counts_outside n) = fails _ (fault CountOutside) _ (fails_of _ (counts_decided s) n)
-  found_first f (cap_beyond c n) = passes _ (fault CountOutside) _ ((counts_decided s).1 c) (fails _ (fault LimitBeyond) _ (fails_of _ (limit_decided s 0) n))
+  found_first f (counts_outside n) = in_order ∙ fails _ (fault CountOutside) _ (fails_of _ (counts_decided s) n)
+  found_first f (cap_beyond c n) = in_order ∙ passes _ (fault CountOutside) _ ((counts_decided s).1 c) (fails _ (fault LimitBeyond) _ (fails_of _ (limit_decided s 0) n))
   found_first f (kind_unknown r l p n) = at_row r l p f (fails _ (fault UnknownKind) _ (fails_of _ (kind_decided s (suc r)) n))
   found_first f (limit_beyond r l p k n) = at_row r l p f (passes _ (fault UnknownKind) _ ((kind_decided s (suc r)).1 k) (fails _ (fault LimitBeyond) _ (fails_of _ (limit_decided s (suc r)) n)))
   found_first f (order_wrong p n) = past_rows p (fails _ (fault OrderNotOnce) _ (fails_of _ (order_decided s) n))

@@ -23,6 +23,10 @@ pub mod Counts
 pub mod ClosingShapes
 pub mod Rights
 pub mod TestLists
+pub mod Counted
+pub mod Filled
+pub mod TestLoops
+pub mod AmountTests
 pub mod OpeningTests
 pub mod FirstFaults
 pub mod PartChoices

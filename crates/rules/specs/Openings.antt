@@ -1,5 +1,5 @@
 -- What is tested when a job is opened with a sheet and a catalogue. Assumes nothing.
-use Rattle.std.specs.Prelude.{◌≡◌, ℕ, zero, suc, ◌-◌, ◌<◌, ◌≤◌, ◌⊎◌, Bool, true, if◌then◌else◌, ◌&&◌, List, [], ◌∷◌, ◌++◌, length, is_some, Some, None, Option, ◌==◌, nat_le, unsigned_abs}
+use Rattle.std.specs.Prelude.{◌≡◌, ℕ, zero, suc, ◌-◌, ◌<◌, ◌≤◌, ◌⊎◌, Bool, true, if◌then◌else◌, ◌&&◌, List, [], ◌∷◌, ◌++◌, length, ℤ, is_some, Some, None, Ok, Err, Option, Result, ◌==◌, nat_le, unsigned_abs}
 use Rattle.std.specs.List.{list_any}
 use Rattle.rules.specs.declared.kinds.Kind.{Kind}
 use Rattle.rules.specs.declared.refusals.Fault.{Fault}
@@ -94,33 +94,72 @@ abbrev pub contains_all : ℕ → List ℕ → Bool
 contains_all zero xs = true
 contains_all (suc q) xs = contains_all q xs && contains (suc q) xs
 
--- The test of a row's limit; that of row 0 is the cap.
-abbrev pub limit_test : Sheet → ℕ → Option Fault
-limit_test s r = test (nat_le (unsigned_abs (limit_of s r)) greatest_limit) (fault LimitBeyond)
+-- The test of a sheet's counts.
+abbrev pub counts_test : Sheet → Option Fault
+counts_test s = test (nat_le 1 s.places && (nat_le s.places most_places && nat_le (last_row s) greatest_row)) (fault CountOutside)
 
--- The tests of a row: its kind, and its limit.
-abbrev pub row_tests : Sheet → ℕ → List (Option Fault)
-row_tests s r = test (kind_known s r) (fault UnknownKind) ∷ limit_test s r ∷ []
+-- The test of a limit; that of row 0 is the cap.
+abbrev pub limit_test : ℤ → Option Fault
+limit_test limit = test (nat_le (unsigned_abs limit) greatest_limit) (fault LimitBeyond)
 
--- The tests of the amounts of a version of a place, row by row from the price on.
-abbrev pub amount_tests : Meaning → ℕ → ℕ → List (Option Fault)
-amount_tests m q v = each_to (λ k. test (nat_le (unsigned_abs (m.amount (k - 1) q v)) greatest_amount) (fault_at AmountBeyond q v (k - 1)) ∷ []) m.rows
+-- The tests of a row: the number of its kind, and its limit.
+abbrev pub row_tests : ℕ → ℤ → List (Option Fault)
+row_tests kind limit = test (is_some (kind_numbered kind)) (fault UnknownKind) ∷ limit_test limit ∷ []
 
--- The tests of an opening, in their order: the counts, the cap, each row, the order, the catalogue's counts, and its amounts by place, version and row.
+-- The tests of the rows from 1 up to one.
+abbrev pub rows_tests : Sheet → ℕ → List (Option Fault)
+rows_tests s k = each_to (λ r. row_tests (kind_of s r) (limit_of s r)) k
+
+-- The test of the order.
+abbrev pub order_test : Sheet → Option Fault
+order_test s = test (length (order_of s) == s.places && contains_all s.places (order_of s)) (fault OrderNotOnce)
+
+-- The tests of a sheet: the counts, the cap, each row, and the order.
+abbrev pub sheet_tests : Sheet → List (Option Fault)
+sheet_tests s = counts_test s ∷ limit_test (limit_of s 0) ∷ (rows_tests s (last_row s) ++ order_test s ∷ [])
+
+-- The test of a catalogue's counts beside a sheet's.
+abbrev pub same_counts_test : Meaning → Sheet → Option Fault
+same_counts_test m s = test (counts_same m s) (fault_at CountsDiffer m.places 0 m.rows)
+
+-- The test of an amount, with the fault of one beyond the bound.
+abbrev pub amount_test : ℤ → Fault → Option Fault
+amount_test amount beyond = test (nat_le (unsigned_abs amount) greatest_amount) beyond
+
+-- The tests of the amounts of so many rows, from the price on.
+abbrev pub amount_tests : ℕ → (ℕ → ℤ) → (ℕ → Fault) → List (Option Fault)
+amount_tests rows amount beyond = each_to (λ k. amount_test (amount (k - 1)) (beyond (k - 1)) ∷ []) rows
+
+-- The tests of the amounts of a version of a place, row by row.
+abbrev pub version_tests : Meaning → ℕ → ℕ → List (Option Fault)
+version_tests m q v = amount_tests m.rows (λ row. m.amount row q v) (λ row. fault_at AmountBeyond q v row)
+
+-- The tests of the amounts of a place, version by version.
+abbrev pub place_tests : Meaning → ℕ → List (Option Fault)
+place_tests m q = each_to (version_tests m q) (m.versions q)
+
+-- The tests of a catalogue beside a sheet: its counts, and its amounts by place, version and row.
+abbrev pub catalogue_tests : Meaning → Sheet → List (Option Fault)
+catalogue_tests m s = same_counts_test m s ∷ each_to (place_tests m) m.places
+
+-- The tests of an opening, in their order: those of the sheet, and those of the catalogue.
 abbrev pub tests : Meaning → Sheet → List (Option Fault)
-tests m s =
-    test (nat_le 1 s.places && (nat_le s.places most_places && nat_le (last_row s) greatest_row)) (fault CountOutside)
-    ∷ limit_test s 0
-    ∷ (each_to (row_tests s) (last_row s)
-    ++ (test (length (order_of s) == s.places && contains_all s.places (order_of s)) (fault OrderNotOnce)
-    ∷ test (counts_same m s) (fault_at CountsDiffer m.places 0 m.rows)
-    ∷ each_to (λ q. each_to (λ v. amount_tests m q v) (m.versions q)) m.places))
+tests m s = sheet_tests s ++ catalogue_tests m s
 
 -- The first fault that tests found.
 abbrev pub first_fault : List (Option Fault) → Option Fault
 first_fault [] = None
 first_fault (Some f ∷ ts) = Some f
 first_fault (None ∷ ts) = first_fault ts
+
+-- The first fault among tests, or what comes after them.
+abbrev pub after_tests : {X : Type 0} → Option Fault → X → Result X Fault
+after_tests (Some f) x = Err f
+after_tests None x = Ok x
+
+-- That tests pass, or the first fault among them.
+abbrev pub checked : List (Option Fault) → Result (Unit {0}) Fault
+checked ts = after_tests (first_fault ts) tt
 
 -- The fault of an opening, if any: that of the first test that finds one.
 unfoldable pub opening : Meaning → Sheet → Option Fault

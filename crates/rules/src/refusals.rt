@@ -1,6 +1,6 @@
 // Why a job or a call is refused.
 ghost use Rattle.std.specs.Prelude.{◌≡◌, ◌++◌, Some, codes, decimal};
-ghost use Rattle.rules.specs.Refusals.{refusal_number, refusal_layer};
+ghost use Rattle.rules.specs.Refusals.{refusal_number, refusal_layer, fault};
 
 use std::error::Error;
 use std::fmt;
@@ -88,4 +88,17 @@ pub struct Fault {
     pub place: u8,
     pub version: u8,
     pub row: u8,
+}
+
+// A refusal that says nothing of where it was met.
+impl From<Refusal> for Fault {
+    ghost from_gives = { λ refusal told. told ≡ fault refusal };
+
+    fn from(refusal: Refusal) -> Fault {
+        Fault {
+            layer: refusal.layer(),
+            number: refusal.number(),
+            ..Fault::default()
+        }
+    }
 }

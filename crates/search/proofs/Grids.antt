@@ -1,40 +1,27 @@
 -- What the tables of a grid hold. Assumes nothing.
-use Rattle.std.proofs.Common.{◌≡◌, ℕ, zero, suc, ◌-◌, ◌<◌, ◌≤◌, Bool, true, false, cond, ◌&&◌, eqb, leb, List, [], ◌∷◌, length, get_or, set, replicate, ℤ, pos, nat_abs, sym, refl, ap, ◌∙◌, ⊎_elim, arith, length-set}
+use Rattle.std.proofs.Common.{◌≡◌, ℕ, zero, suc, ◌-◌, ◌<◌, ◌≤◌, true, leb, List, length, get_or, ℤ, pos, nat_abs, Some, None, Option, sym, refl, ap, ◌∙◌, subst, inl, inr, arith}
 use mathlib.Core.Path.{fun_ext}
-use Rattle.std.proofs.lemmas.List.{get_or-set_same, get_or-set_other, get_or-replicate}
-use Rattle.std.proofs.lemmas.Bool.{cases_eq, eq-eqb, ne_eqb, cond-true, cond-false, and_from, and_parts, and_left, and_right, both_ways, le-leb, leb-true}
-use Rattle.std.proofs.lemmas.Bool.Decides.{nat_tests}
-use Rattle.rules.specs.Bounds.{most_places, most_versions, most_rows, greatest_amount}
-use Rattle.rules.specs.declared.kinds.Kind.{Kind}
+use Rattle.std.specs.Option.{unwrap_or}
+use Rattle.std.proofs.lemmas.List.{get_or_past}
+use Rattle.std.proofs.lemmas.List.FromFn.{length-map-range_with_len, get_or-map-range_with_len}
+use Rattle.std.proofs.lemmas.Bool.{cond_both, and_parts, leb-true, ltb-true, cases_lt, and_from, le-leb, both_ways}
+use Rattle.rules.specs.Bounds.{most_places, most_versions, most_rows, greatest_row, greatest_amount}
 use Rattle.rules.specs.declared.kinds.Kind.TheVariants.{SumAtMost}
-use Rattle.rules.specs.Joinings.{Joining, joining}
+use Rattle.rules.specs.declared.kinds.Kind.{Kind}
+use Rattle.rules.specs.declared.sheets.Row.{Row}
+use Rattle.rules.specs.declared.sheets.Sheet.{Sheet}
+use Rattle.rules.specs.Joinings.{Joining, joining, kind_numbered}
+use Rattle.rules.specs.Catalogues.{Meaning, SoundMeaning, has_amount, has_place}
+use Rattle.rules.specs.Sheets.{blank_row, joining_found, joining_of, kind_of, order_of}
+use Rattle.rules.specs.Openings.{Faultless}
 use Rattle.rules.specs.Grounds.{Setting}
-use Rattle.search.specs.Tables.{no_amounts, no_position, count_at, slot, has_version, amount_at, Counted, Long, Wide, Near, put_row, put_version, put_slot}
-use Rattle.search.specs.Settings.{one_position}
+use Rattle.rules.specs.Settings.{versions_in, amount_in, place_at}
+use Rattle.search.specs.Tables.{no_amounts, no_position, count_at, slot, has_version, amount_at, Counted, Long, Wide, Near}
+use Rattle.search.specs.Made.{kind_at, kinds_in, amounts_in, position_in, positions_in}
 use Rattle.search.specs.declared.position.Amounts.{Amounts}
 use Rattle.search.specs.declared.position.Position.{Position}
 
--- what holds of an element that is written, and of those that were there, holds of all; so of a list that is one element over and over
-set_either : {X : Type 0} (P : X → Type 0) (xs : List X) (i j : ℕ) (a d : X) → P a → P (get_or xs j d) → P (get_or (set xs i a) j d)
-set_either P [] i j a d new old = old
-set_either P (x ∷ xs) zero zero a d new old = new
-set_either P (x ∷ xs) zero (suc j) a d new old = old
-set_either P (x ∷ xs) (suc i) zero a d new old = old
-set_either P (x ∷ xs) (suc i) (suc j) a d new old = set_either P xs i j a d new old
-
-replicate_either : {X : Type 0} (P : X → Type 0) (n k : ℕ) (x d : X) → P x → P d → P (get_or (replicate n x) k d)
-replicate_either P zero k x d new none = none
-replicate_either P (suc n) zero x d new none = new
-replicate_either P (suc n) (suc k) x d new none = replicate_either P n k x d new none
-
--- what the tables keep, at one position
-abbrev GoodPosition : Position → Type 0
-GoodPosition p =
-    (p.count ≤ most_versions) × (length p.versions ≡ most_versions)
-    × ((j : ℕ) → j < most_versions → length (get_or p.versions j no_amounts).rows ≡ most_rows)
-    × ((j r : ℕ) → nat_abs (get_or (get_or p.versions j no_amounts).rows r (pos 0)) ≤ greatest_amount)
-
--- what they keep, at all positions
+-- what the tables keep
 pub record Good (ps : List Position) : Type 0 where
   pub whole : length ps ≡ most_places
   pub counted : Counted ps
@@ -42,137 +29,177 @@ pub record Good (ps : List Position) : Type 0 where
   pub wide : Wide ps
   pub near : Near ps
 
-at_position : (ps : List Position) → Good ps → (i : ℕ) → i < most_places → GoodPosition (get_or ps i no_position)
-at_position ps good i low = (good.counted i low, good.long i low, (λ j few. good.wide i j (low, few)), good.near i)
+-- a row, a place and a version of which a meaning has an amount
+record There (m : Meaning) (row q v : ℕ) : Type 0 where
+  in_rows : row < m.rows
+  from : 1 ≤ q
+  to : q ≤ m.places
+  some : 1 ≤ v
+  few : v ≤ m.versions q
 
-good_set : (ps : List Position) (i : ℕ) (x : Position) → Good ps → GoodPosition x → Good (set ps i x)
-good_set ps i x good new =
-    let at : (k : ℕ) → k < most_places → GoodPosition (get_or (set ps i x) k no_position) = λ k low. set_either GoodPosition ps i k x no_position new (at_position ps good k low) in
-    record {
-      whole = length-set ps i x ∙ good.whole;
-      counted = λ k low. (at k low).0;
-      long = λ k low. (at k low).1;
-      wide = λ k j there. (at k there.0).2 j there.1;
-      near = λ k j r. set_either (λ (p : Position). nat_abs (get_or (get_or p.versions j no_amounts).rows r (pos 0)) ≤ greatest_amount) ps i k x no_position (new.3 j r) (good.near k j r);
-    }
+there : (m : Meaning) (row q v : ℕ) → has_amount m row q v ≡ true → There m row q v
+there m row q v e =
+    let a = and_parts _ _ e in
+    let b = and_parts (has_place m q) _ a.1 in
+    let c = and_parts (leb 1 q) _ b.0 in
+    let d = and_parts (leb 1 v) _ b.1 in
+    record { in_rows = ltb-true _ _ a.0; from = leb-true _ _ c.0; to = leb-true _ _ c.1; some = leb-true _ _ d.0; few = leb-true _ _ d.1 }
 
-pub good_slot : (ps : List Position) (i j r : ℕ) (z : ℤ) → i < most_places → j < most_versions → nat_abs z ≤ greatest_amount → Good ps → Good (put_slot ps i j r z)
-good_slot ps i j r z low few near good =
-    let old = at_position ps good i low in
-    let vs = (get_or ps i no_position).versions in
-    let a = get_or vs j no_amounts in
-    good_set ps i _ good (
-      old.0,
-      length-set vs j _ ∙ old.1,
-      (λ k h. set_either (λ (x : Amounts). length x.rows ≡ most_rows) vs j k (put_row a r z) no_amounts (length-set a.rows r z ∙ old.2 j few) (old.2 k h)),
-      λ k q. set_either (λ (x : Amounts). nat_abs (get_or x.rows q (pos 0)) ≤ greatest_amount) vs j k (put_row a r z) no_amounts (set_either (λ y. nat_abs y ≤ greatest_amount) a.rows r q z (pos 0) near (old.3 j q)) (old.3 k q),
-    )
+no_amount : (m : Meaning) (row q v : ℕ) → (There m row q v → ⊥) → pos 0 ≡ amount_in m row q v
+no_amount m row q v none =
+    cond_both (has_amount m row q v) (m.amount row q v) (pos 0) (λ z. pos 0 ≡ z) (λ e. absurd (none (there m row q v e))) (λ e. refl)
 
--- a table with nothing set
-abbrev blank_amounts : Amounts
-blank_amounts = record { rows = replicate most_rows (pos 0) }
+module _ (m : Meaning) (w : SoundMeaning m) (s : Sheet) (f : Faultless m s) where
+  pub amount_near : (row q v : ℕ) → nat_abs (amount_in m row q v) ≤ greatest_amount
+  amount_near row q v =
+      cond_both (has_amount m row q v) (m.amount row q v) (pos 0) (λ z. nat_abs z ≤ greatest_amount)
+      (λ e. let t = there m row q v e in f.amounts row q v (omega (arith, t.in_rows, f.same_rows)) t.from (omega (arith, t.to, f.same_places)) t.some t.few)
+      (λ e. omega arith)
 
-abbrev blank_position : Position
-blank_position = record { count = 0; versions = replicate most_versions blank_amounts }
+  few_versions : (q : ℕ) → versions_in m q ≤ most_versions
+  few_versions q =
+      cond_both (has_place m q) (m.versions q) 0 (λ n. n ≤ most_versions)
+      (λ e. let t = and_parts (leb 1 q) _ e in w.few_versions q (leb-true _ _ t.0) (leb-true _ _ t.1))
+      (λ e. omega arith)
 
-abbrev pub blank_positions : List Position
-blank_positions = replicate most_places blank_position
+  -- the place at an index of the order, and 0 past it
+  place : ℕ → ℕ
+  place i = get_or (order_of s) i 0
 
-blank_slot : (i j r : ℕ) → slot blank_positions i j r ≡ pos 0
-blank_slot i j r =
-    replicate_either (λ (p : Position). get_or (get_or p.versions j no_amounts).rows r (pos 0) ≡ pos 0) most_places i blank_position no_position
-    (replicate_either (λ (a : Amounts). get_or a.rows r (pos 0) ≡ pos 0) most_versions j blank_amounts no_amounts (replicate_either (λ z. z ≡ pos 0) most_rows r (pos 0) (pos 0) refl refl) refl)
-    refl
+  abbrev table : List Position
+  table = positions_in m s
 
-pub good_blank : Good blank_positions
-good_blank =
-    record {
-      whole = refl;
-      counted = λ i low. let none = ap (λ (p : Position). p.count) (get_or-replicate most_places i blank_position no_position low) in omega arith;
-      long = λ i low. ap (λ (p : Position). length p.versions) (get_or-replicate most_places i blank_position no_position low);
-      wide = λ i j there. ap (λ (p : Position). length (get_or p.versions j no_amounts).rows) (get_or-replicate most_places i blank_position no_position there.0) ∙ ap (λ (a : Amounts). length a.rows) (get_or-replicate most_versions j blank_amounts no_amounts there.1);
-      near = λ i j r. let none = ap nat_abs (blank_slot i j r) in omega arith;
-    }
+  whole : length table ≡ most_places
+  unfolding positions_in
+  whole = length-map-range_with_len (λ i. position_in m (place_at (order_of s) (suc i))) 0 most_places
 
-pub blank_counts : count_at blank_positions ≡ (λ p. 0)
-blank_counts = fun_ext (λ p. replicate_either (λ (x : Position). x.count ≡ 0) most_places (p - 1) blank_position no_position refl refl)
+  position_at : (i : ℕ) → i < most_places → get_or table i no_position ≡ position_in m (place i)
+  unfolding positions_in place
+  position_at i low =
+      let at : suc i - 1 ≡ i = omega arith in
+      get_or-map-range_with_len (λ i. position_in m (place_at (order_of s) (suc i))) 0 most_places i i no_position low (omega arith)
+      ∙ ap (λ k. position_in m (get_or (order_of s) k 0)) at
 
-pub blank_amount : amount_at blank_positions ≡ (λ r p v. pos 0)
-blank_amount = fun_ext (λ r. fun_ext (λ p. fun_ext (λ v. both_zero (has_version v) _ (blank_slot (p - 1) (v - 1) r))))
-  where
-    both_zero : (b : Bool) (z : ℤ) → z ≡ pos 0 → cond b z (pos 0) ≡ pos 0
-    both_zero true z e = e
-    both_zero false z e = refl
+  all_versions : (q : ℕ) → length (position_in m q).versions ≡ most_versions
+  unfolding position_in
+  all_versions q = length-map-range_with_len (λ j. amounts_in m q (suc j)) 0 most_versions
 
-pub blank_joining : ◌≡◌ {A = ℕ → Joining} (λ r. joining (get_or (replicate most_rows SumAtMost) r SumAtMost)) (λ r. joining SumAtMost)
-blank_joining = fun_ext (λ r. ap joining (replicate_either (λ (k : Kind). k ≡ SumAtMost) most_rows r SumAtMost SumAtMost refl refl))
+  count_is : (q : ℕ) → (position_in m q).count ≡ versions_in m q
+  unfolding position_in
+  count_is q = refl
 
--- what a list holds after a write
-get_d_set : {X : Type 0} (xs : List X) (i j : ℕ) (a d : X) → i < length xs → get_or (set xs i a) j d ≡ cond (eqb j i) a (get_or xs j d)
-get_d_set xs i j a d within =
-    ⊎_elim
-    (λ e. ap (λ k. get_or (set xs i a) k d) e ∙ get_or-set_same xs i a d within ∙ sym (cond-true (eqb j i) a _ (eq-eqb j i e)))
-    (λ ne. get_or-set_other xs i j a d ne ∙ sym (cond-false (eqb j i) a _ (ne_eqb j i ne)))
-    (cases_eq j i)
+  version_at : (q j : ℕ) → j < most_versions → get_or (position_in m q).versions j no_amounts ≡ amounts_in m q (suc j)
+  unfolding position_in
+  version_at q j few = get_or-map-range_with_len (λ j. amounts_in m q (suc j)) 0 most_versions j j no_amounts few (omega arith)
 
--- another amount leaves the counts
-pub counts_kept : (ps : List Position) (i j r : ℕ) (z : ℤ) → count_at (put_slot ps i j r z) ≡ count_at ps
-counts_kept ps i j r z =
-    fun_ext (λ p.
-    ⊎_elim
-    (λ e. set_either (λ (x : Position). x.count ≡ count_at ps p) ps i (p - 1) (put_version (get_or ps i no_position) j _) no_position (ap (λ h. (get_or ps h no_position).count) (sym e)) refl)
-    (λ ne. ap (λ (x : Position). x.count) (get_or-set_other ps i (p - 1) _ no_position ne))
-    (cases_eq (p - 1) i))
+  all_rows : (q v : ℕ) → length (amounts_in m q v).rows ≡ most_rows
+  unfolding amounts_in
+  all_rows q v = length-map-range_with_len (λ r. amount_in m r q v) 0 most_rows
 
--- a slot after a write
-slot_set : (ps : List Position) → Good ps → (i j r : ℕ) (z : ℤ) → i < most_places → j < most_versions → r < most_rows → (k l q : ℕ) → slot (put_slot ps i j r z) k l q ≡ cond (eqb k i && (eqb l j && eqb q r)) z (slot ps k l q)
-slot_set ps good i j r z low few wide k l q =
-    let old = at_position ps good i low in
-    let vs = (get_or ps i no_position).versions in
-    let a = get_or vs j no_amounts in
-    ⊎_elim
-    (λ e.
-    ap (λ (x : Position). get_or (get_or x.versions l no_amounts).rows q (pos 0)) (ap (λ h. get_or (put_slot ps i j r z) h no_position) e ∙ get_or-set_same ps i _ no_position (omega (arith, good.whole)))
-    ∙ ⊎_elim
-    (λ f.
-    ap (λ (x : Amounts). get_or x.rows q (pos 0)) (ap (λ h. get_or (set vs j (put_row a r z)) h no_amounts) f ∙ get_or-set_same vs j _ no_amounts (omega (arith, old.1)))
-    ∙ get_d_set a.rows r q z (pos 0) (omega (arith, old.2 j few))
-    ∙ ap (λ t. cond (eqb q r) z t) (ap (λ h. get_or (get_or vs h no_amounts).rows q (pos 0)) (sym f) ∙ ap (λ h. slot ps h l q) (sym e))
-    ∙ sym (ap (λ b. cond (b && (eqb l j && eqb q r)) z (slot ps k l q)) (eq-eqb k i e) ∙ ap (λ b. cond (b && eqb q r) z (slot ps k l q)) (eq-eqb l j f)))
-    (λ ne.
-    ap (λ (x : Amounts). get_or x.rows q (pos 0)) (get_or-set_other vs j l _ no_amounts ne)
-    ∙ ap (λ h. slot ps h l q) (sym e)
-    ∙ sym (ap (λ b. cond (b && (eqb l j && eqb q r)) z (slot ps k l q)) (eq-eqb k i e) ∙ ap (λ b. cond (b && eqb q r) z (slot ps k l q)) (ne_eqb l j ne)))
-    (cases_eq l j))
-    (λ ne.
-    ap (λ (x : Position). get_or (get_or x.versions l no_amounts).rows q (pos 0)) (get_or-set_other ps i k _ no_position ne)
-    ∙ sym (ap (λ b. cond (b && (eqb l j && eqb q r)) z (slot ps k l q)) (ne_eqb k i ne)))
-    (cases_eq k i)
+  row_at : (q v r : ℕ) → get_or (amounts_in m q v).rows r (pos 0) ≡ amount_in m r q v
+  unfolding amounts_in
+  row_at q v r = elim (cases_lt r most_rows) [
+    | inl low ↦ get_or-map-range_with_len (λ r. amount_in m r q v) 0 most_rows r r (pos 0) low (omega arith)
+    | inr past ↦
+        get_or_past (amounts_in m q v).rows r (pos 0) (omega (arith, all_rows q v))
+        ∙ no_amount m r q v (λ t. omega (arith, t.in_rows, w.few_rows))
+  ]
 
--- an amount after a write
-module _ (ps : List Position) (good : Good ps) (p v row : ℕ) (z : ℤ) (low : p - 1 < most_places) (some : 1 ≤ v) (few : v ≤ most_versions) (wide : row < most_rows) where
-  there : (w q r : ℕ) → has_version w ≡ true → slot (put_slot ps (p - 1) (v - 1) row z) (q - 1) (w - 1) r ≡ cond (one_position q p && (eqb w v && eqb r row)) z (slot ps (q - 1) (w - 1) r)
-  there w q r has =
-      let from = leb-true 1 w (and_parts (leb 1 w) _ has).0 in
-      let same : eqb (w - 1) (v - 1) ≡ eqb w v = grind (arith, nat_tests) in
-      slot_set ps good (p - 1) (v - 1) row z low (omega arith) wide (q - 1) (w - 1) r
-      ∙ ap (λ b. cond (one_position q p && (b && eqb r row)) z (slot ps (q - 1) (w - 1) r)) same
+  -- past the positions there may be there is no place
+  no_place : (i : ℕ) → most_places ≤ i → place i ≡ 0
+  unfolding place
+  no_place i past = get_or_past (order_of s) i 0 (omega (arith, f.order.0, f.few_places))
 
-  not_there : (w q r : ℕ) → has_version w ≡ false → pos 0 ≡ cond (one_position q p && (eqb w v && eqb r row)) z (pos 0)
-  not_there w q r none =
-      let other : eqb w v ≡ false = ne_eqb w v (λ e. both_ways (has_version w) none (ap has_version e ∙ and_from (leb 1 v) (leb v most_versions) (le-leb 1 v some) (le-leb v most_versions few))) in
-      sym (cond-false (one_position q p && (eqb w v && eqb r row)) z (pos 0) (and_right (one_position q p) _ (and_left (eqb w v) (eqb r row) other)))
+  past_table : (i : ℕ) → most_places ≤ i → get_or table i no_position ≡ no_position
+  past_table i past = get_or_past table i no_position (omega (arith, whole))
 
-  by_version : (b : Bool) (w q r : ℕ) → has_version w ≡ b → cond b (slot (put_slot ps (p - 1) (v - 1) row z) (q - 1) (w - 1) r) (pos 0) ≡ cond (one_position q p && (eqb w v && eqb r row)) z (cond b (slot ps (q - 1) (w - 1) r) (pos 0))
-  by_version true w q r has = there w q r has
-  by_version false w q r none = not_there w q r none
+  slot_is : (i j r : ℕ) → j < most_versions → slot table i j r ≡ amount_in m r (place i) (suc j)
+  slot_is i j r few = elim (cases_lt i most_places) [
+    | inl low ↦
+        ap (λ (p : Position). get_or (get_or p.versions j no_amounts).rows r (pos 0)) (position_at i low)
+        ∙ ap (λ (a : Amounts). get_or a.rows r (pos 0)) (version_at (place i) j few)
+        ∙ row_at (place i) (suc j) r
+    | inr past ↦
+        ap (λ (p : Position). get_or (get_or p.versions j no_amounts).rows r (pos 0)) (past_table i past)
+        ∙ no_amount m r (place i) (suc j) (λ t. omega (arith, t.from, no_place i past))
+  ]
 
-  amounts_set : amount_at (put_slot ps (p - 1) (v - 1) row z) ≡ (λ r q w. cond (one_position q p && (eqb w v && eqb r row)) z (amount_at ps r q w))
-  amounts_set = fun_ext (λ r. fun_ext (λ q. fun_ext (λ w. by_version (has_version w) w q r refl)))
+  no_slot : (i j r : ℕ) → most_versions ≤ j → slot table i j r ≡ pos 0
+  no_slot i j r past = elim (cases_lt i most_places) [
+    | inl low ↦
+        ap (λ (p : Position). get_or (get_or p.versions j no_amounts).rows r (pos 0)) (position_at i low)
+        ∙ ap (λ (a : Amounts). get_or a.rows r (pos 0)) (get_or_past (position_in m (place i)).versions j no_amounts (omega (arith, all_versions (place i))))
+    | inr beyond ↦ ap (λ (p : Position). get_or (get_or p.versions j no_amounts).rows r (pos 0)) (past_table i beyond)
+  ]
 
-  pub amounts_put : (i v' row' : ℕ) (z' : ℤ) → i ≡ p - 1 → v' ≡ v → row' ≡ row → z' ≡ z → amount_at (put_slot ps i (v' - 1) row' z') ≡ (λ r q w. cond (one_position q p && (eqb w v && eqb r row)) z (amount_at ps r q w))
-  amounts_put i v' row' z' a b c d =
-      ap (λ x. amount_at (put_slot ps x (v' - 1) row' z')) a ∙ ap (λ x. amount_at (put_slot ps (p - 1) (x - 1) row' z')) b ∙ ap (λ x. amount_at (put_slot ps (p - 1) (v - 1) x z')) c ∙ ap (λ x. amount_at (put_slot ps (p - 1) (v - 1) row x)) d ∙ amounts_set
+  slot_near : (i j r : ℕ) → nat_abs (slot table i j r) ≤ greatest_amount
+  slot_near i j r = elim (cases_lt j most_versions) [
+    | inl few ↦ subst (λ z. nat_abs z ≤ greatest_amount) (sym (slot_is i j r few)) (amount_near r (place i) (suc j))
+    | inr past ↦ subst (λ z. nat_abs z ≤ greatest_amount) (sym (no_slot i j r past)) (omega arith)
+  ]
+
+  pub good : Good table
+  good =
+      record {
+        whole = whole;
+        counted = λ i low. let at = ap (λ (p : Position). p.count) (position_at i low) ∙ count_is (place i) in omega (arith, at, few_versions (place i));
+        long = λ i low. ap (λ (p : Position). length p.versions) (position_at i low) ∙ all_versions (place i);
+        wide = λ i j t.
+            ap (λ (p : Position). length (get_or p.versions j no_amounts).rows) (position_at i t.0)
+            ∙ ap (λ (a : Amounts). length a.rows) (version_at (place i) j t.1)
+            ∙ all_rows (place i) (suc j);
+        near = slot_near;
+      }
+
+  -- by position the table has the counts and amounts that the rules see
+  pub counts : count_at table ≡ (λ p. versions_in m (place_at (order_of s) p))
+  unfolding place
+  counts = fun_ext (λ p. elim (cases_lt (p - 1) most_places) [
+    | inl low ↦ ap (λ (p : Position). p.count) (position_at (p - 1) low) ∙ count_is (place (p - 1))
+    | inr past ↦ ap (λ (p : Position). p.count) (past_table (p - 1) past) ∙ ap (versions_in m) (sym (no_place (p - 1) past))
+  ])
+
+  amount_is : (r p v : ℕ) → amount_at table r p v ≡ amount_in m r (place_at (order_of s) p) v
+  unfolding place
+  amount_is r p v =
+      cond_both (has_version v) (slot table (p - 1) (v - 1) r) (pos 0) (λ z. z ≡ amount_in m r (place (p - 1)) v)
+      (λ e.
+      let t = and_parts (leb 1 v) _ e in
+      let some = leb-true 1 v t.0 in
+      let few = leb-true v most_versions t.1 in
+      let at : suc (v - 1) ≡ v = omega arith in
+      slot_is (p - 1) (v - 1) r (omega arith) ∙ ap (amount_in m r (place (p - 1))) at)
+      (λ e. no_amount m r (place (p - 1)) v (λ t. both_ways (has_version v) e (and_from _ _ (le-leb 1 v t.some) (le-leb v most_versions (omega (arith, t.few, w.few_versions (place (p - 1)) t.from t.to))))))
+
+  pub amounts : amount_at table ≡ (λ r p v. amount_in m r (place_at (order_of s) p) v)
+  amounts = fun_ext (λ r. fun_ext (λ p. fun_ext (λ v. amount_is r p v)))
+
+-- the kinds of a table give the joinings of the sheet
+found_joining : (o : Option Kind) → joining (unwrap_or o SumAtMost) ≡ joining_found o
+found_joining None = refl
+found_joining (Some k) = refl
+
+module _ (s : Sheet) (long : length s.rows ≡ greatest_row) where
+  past_rows : (r : ℕ) → most_rows ≤ r → SumAtMost ≡ kind_at s.rows r
+  past_rows zero past = absurd (omega arith)
+  past_rows (suc r) past = ap (λ (w : Row). unwrap_or (kind_numbered w.kind) SumAtMost) (sym (get_or_past s.rows r blank_row (omega arith)))
+
+  kind_is : (r : ℕ) → get_or (kinds_in s.rows) r SumAtMost ≡ kind_at s.rows r
+  unfolding kinds_in
+  kind_is r = elim (cases_lt r most_rows) [
+    | inl low ↦ get_or-map-range_with_len (kind_at s.rows) 0 most_rows r r SumAtMost low (omega arith)
+    | inr past ↦ get_or_past (kinds_in s.rows) r SumAtMost (omega (arith, length-map-range_with_len (kind_at s.rows) 0 most_rows)) ∙ past_rows r past
+  ]
+
+  pub priced : get_or (kinds_in s.rows) 0 SumAtMost ≡ SumAtMost
+  priced = kind_is 0
+
+  joining_is : (r : ℕ) → joining (kind_at s.rows r) ≡ joining_of s r
+  joining_is zero = refl
+  joining_is (suc r) = found_joining (kind_numbered (kind_of s (suc r)))
+
+  pub joinings : ◌≡◌ {A = ℕ → Joining} (λ r. joining (get_or (kinds_in s.rows) r SumAtMost)) (joining_of s)
+  joinings = fun_ext (λ r. ap joining (kind_is r) ∙ joining_is r)
 
 -- settings with the same parts
 pub same_setting : {n m n' m' : ℕ} {j j' : ℕ → Joining} {k k' : ℕ → ℕ} {a a' : ℕ → ℕ → ℕ → ℤ} → n ≡ n' → m ≡ m' → j ≡ j' → k ≡ k' → a ≡ a' → ◌≡◌ {A = Setting} (record { places = n; last_row = m; joining = j; versions = k; amount = a }) (record { places = n'; last_row = m'; joining = j'; versions = k'; amount = a' })

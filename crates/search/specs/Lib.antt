@@ -1,4 +1,5 @@
 pub mod Tables
+pub mod Made
 pub mod Settings
 pub mod Parts
 pub mod States

@@ -1,6 +1,6 @@
 use Rattle.std.proofs.Common.{rules}
 use Rattle.rules.proofs.Ranges.{all_over}
-use Rattle.jobfile.proofs.Counted.{all_counted, lists}
+use Rattle.rules.proofs.Counted.{all_counted, lists}
 use Rattle.jobfile.proofs.checks.lists_each.Goals as goal
 
 pub returns : goal.returns
