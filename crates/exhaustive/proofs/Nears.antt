@@ -6,7 +6,7 @@ use Rattle.rules.specs.Joinings.{Joining, Laws, joined_over}
 use Rattle.rules.specs.Catalogues.{Meaning, SoundMeaning, has_place, has_amount}
 use Rattle.rules.specs.Choices.{version}
 use Rattle.rules.specs.Settings.{amount_in}
-use Rattle.joining.specs.Held.{held}
+use Rattle.joining.specs.Held.{held_in_64}
 use Rattle.joining.proofs.Held.{held_near}
 
 amount_near : (m : Meaning) → SoundMeaning m → (row q v : ℕ) → nat_abs (amount_in m row q v) ≤ amount_reach
@@ -34,8 +34,8 @@ module _ (m : Meaning) (w : SoundMeaning m) (J : Joining) (laws : Laws J) (row :
       omega (arith, laws.near (joined_over J f q) (f (suc q)), joined_near q, amount_near m w row (suc q) (version c (suc q)), suc-mul (suc q) amount_reach)
 
   -- one place more
-  pub joined_more : (q : ℕ) → 1 ≤ q → q ≤ most_places → held (J.join (joined_over J f (q - 1)) (f q)) ≡ joined_over J f q
+  pub joined_more : (q : ℕ) → 1 ≤ q → q ≤ most_places → held_in_64 (J.join (joined_over J f (q - 1)) (f q)) ≡ joined_over J f q
   joined_more zero l h = absurd (omega arith)
   joined_more (suc q) l h =
       let at : suc q - 1 ≡ q = omega arith in
-      ap (λ x. held (J.join (joined_over J f x) (f (suc q)))) at ∙ held_near (joined_over J f (suc q)) (omega (arith, joined_near (suc q), suc-mul (suc q) amount_reach))
+      ap (λ x. held_in_64 (J.join (joined_over J f x) (f (suc q)))) at ∙ held_near (joined_over J f (suc q)) (omega (arith, joined_near (suc q), suc-mul (suc q) amount_reach))

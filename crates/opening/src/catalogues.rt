@@ -26,12 +26,7 @@ fn check_counts<C: Catalogue>(sheet: &Sheet, catalogue: &C) -> Result<(), Fault>
 }
 
 // One amount that the catalogue has.
-fn check_amount<C: Catalogue>(
-    catalogue: &C,
-    place: u8,
-    version: u8,
-    row: u8,
-) -> Result<(), Fault>
+fn check_amount<C: Catalogue>(catalogue: &C, place: u8, version: u8, row: u8) -> Result<(), Fault>
     requires { has_amount (C.Catalogue.meaning catalogue.now) row place version ≡ true }
     ensures { result ≡ checked (amount_test ((C.Catalogue.meaning catalogue.now).amount row place version) (fault_at AmountBeyond place version row) ∷ []) }
 {

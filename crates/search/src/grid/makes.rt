@@ -2,13 +2,13 @@
 ghost use Rattle.std.specs.Prelude.{◌≡◌, ◌+◌};
 ghost use Rattle.rules.specs.Settings.{place_at, amount_in, setting as setting_of};
 ghost use Rattle.search.specs.Settings.{setting};
-ghost use Rattle.search.specs.Made.{kind_at, amounts_in, position_in};
+ghost use Rattle.search.specs.Made.{kind_at, kinds_in, amounts_in, position_in, positions_in};
 
 use crate::grid::Grid;
 use crate::position::{Amounts, Position};
 use catalogue::Catalogue;
 use opening::Checked;
-use rules::{Kind, Row};
+use rules::{Kind, MOST_PLACES, MOST_ROWS, Row};
 use std::array;
 
 // The kind of a row, in a table that begins with row 1. A number that stands for none, as there may be past the last row, is read
@@ -20,6 +20,13 @@ fn kind_at(rows: &[Row], row: usize) -> Kind
         Some(row) => Kind::try_from(row.kind).unwrap_or(Kind::SumAtMost),
         None => Kind::SumAtMost,
     }
+}
+
+// The kinds of the rows, in a table that begins with row 1.
+fn kinds_in(rows: &[Row]) -> [Kind; MOST_ROWS]
+    ensures { result ≡ kinds_in rows.now }
+{
+    array::from_fn(|row| kind_at(rows, row))
 }
 
 // The place at an index of an order, that of position 1 being at 0, and 0 past the last.
@@ -56,19 +63,26 @@ fn position_in<C: Catalogue>(checked: &Checked<'_, C>, place: u8) -> Position
     }
 }
 
+// What can be chosen at each position.
+fn positions_in<C: Catalogue>(checked: &Checked<'_, C>) -> [Position; MOST_PLACES]
+    ensures { result ≡ positions_in (C.Catalogue.meaning checked.now.catalogue.now) checked.now.sheet.now }
+{
+    let sheet = checked.sheet();
+    let order = &sheet.order[..usize::from(sheet.places)];
+    array::from_fn(|index| position_in(checked, place_at(order, index)))
+}
+
 impl Grid {
     // A sheet and a catalogue as a table, by position.
     pub fn of<C: Catalogue>(checked: &Checked<'_, C>) -> Grid
         ensures { setting result ≡ setting_of (C.Catalogue.meaning checked.now.catalogue.now) checked.now.sheet.now }
     {
         let sheet = checked.sheet();
-        let rows: &[Row] = &sheet.rows;
-        let order = &sheet.order[..usize::from(sheet.places)];
         Grid {
             places: usize::from(sheet.places),
             last_row: usize::from(sheet.last_row),
-            kinds: array::from_fn(|row| kind_at(rows, row)),
-            positions: array::from_fn(|index| position_in(checked, place_at(order, index))),
+            kinds: kinds_in(&sheet.rows),
+            positions: positions_in(checked),
         }
     }
 }
