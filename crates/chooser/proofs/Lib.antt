@@ -2,3 +2,4 @@ pub mod Changes
 pub mod Budgets
 pub mod Comings
 pub mod NotNow
+pub mod SheetLimits
