@@ -3,3 +3,4 @@ pub mod Budgets
 pub mod Comings
 pub mod NotNow
 pub mod SheetLimits
+pub mod Plays
