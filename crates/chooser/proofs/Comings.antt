@@ -1,5 +1,5 @@
 -- What a job keeps over a call: its setting, and that it has come about by calls. Assumes nothing.
-use Rattle.std.proofs.Common.{◌≡◌, List, [], Ok, Err, Result, sym, refl, ap, ◌∙◌, subst}
+use Rattle.std.proofs.Common.{◌≡◌, List, [], Ok, Err, Result, sym, ap, ◌∙◌, subst}
 use Rattle.std.proofs.Math.Logic.{∥∥₁_map}
 use Rattle.rules.specs.declared.refusals.Fault.{Fault}
 use Rattle.rules.specs.declared.sheets.Sheet.{Sheet}

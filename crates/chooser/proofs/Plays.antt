@@ -6,9 +6,10 @@ use Rattle.rules.specs.declared.records.CallRecord.{CallRecord}
 use Rattle.rules.specs.Grounds.{Setting}
 use Rattle.rules.specs.declared.sheets.Sheet.{Sheet}
 use Rattle.rules.specs.Catalogues.{Meaning, SoundMeaning}
+use Rattle.rules.specs.Openings.{opening}
 use Rattle.rules.specs.Histories.{Entry}
 use Rattle.rules.specs.Settings.{setting}
-use Rattle.rules.specs.KeptJobs.{CameBy, KeptJob}
+use Rattle.rules.specs.KeptJobs.{CameBy, KeptJob, opened_with}
 use Rattle.rules.specs.Records.{Lawful, all_answered, answer_to, answered, closed_job, job_after, job_after_all}
 use Rattle.rules.proofs.Works.{record_law}
 
@@ -46,3 +47,10 @@ pub lawful : (m : Meaning) → SoundMeaning m → (s : Sheet) (before : List Ent
 lawful m w s before k asked rs after answers left came =
     subst (λ xs. Lawful m s before xs after) (sym answers)
     (subst (Lawful m s before (all_answered (setting m s) k asked)) (sym left) ((record_law m w s).carries before k came asked).0)
+
+-- on a job that was opened it is lawful with no call before
+pub lawful_opened : (m n : Meaning) (s t : Sheet) (k : KeptJob) (rs : List CallRecord) (after : KeptJob) → SoundMeaning m → n ≡ m → t ≡ s → k ≡ opened_with s (opening m s) → ((before : List Entry) → CameBy n t before k → Lawful n t before rs after) → Lawful m s [] rs after
+lawful_opened m n s t k rs after w same_meaning same_sheet opening_is lawful =
+    let opens : CameBy m s [] k = subst (CameBy m s []) (sym opening_is) (record_law m w s).opens in
+    let came : CameBy n t [] k = subst (λ x. CameBy x t [] k) (sym same_meaning) (subst (λ y. CameBy m y [] k) (sym same_sheet) opens) in
+    subst (λ x. Lawful x s [] rs after) same_meaning (subst (λ y. Lawful n y [] rs after) same_sheet (lawful [] came))
