@@ -12,8 +12,8 @@ invariant_of-self g c =
     let before = c.in-Ok.closed in
     let after = c.change_limit.new.self in
     let kept =
-        goes_on m j.sheet (change c.args.row (to_z w32 (of_z w32 c.args.limit))) (closed_of before) (closed_of after) (setting before.grid) (setting after.grid)
-        (ap setting c.change_limit.ensures.grid) c.change_limit.ensures.job (in_closed m j.sheet _ before c.in-Ok.is (j.seen, j.came))
+    goes_on m j.sheet (change c.args.row (to_z w32 (of_z w32 c.args.limit))) (closed_of before) (closed_of after) (setting before.grid) (setting after.grid)
+    (ap setting c.change_limit.ensures.grid) c.change_limit.ensures.job (in_closed m j.sheet _ before c.in-Ok.is (j.seen, j.came))
     in
     record { seen = kept.0; came = kept.1 }
 

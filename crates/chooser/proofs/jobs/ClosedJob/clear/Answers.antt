@@ -14,8 +14,8 @@ invariant_of-self g c =
     let before = c.in-Ok.closed in
     let after = c.clear.new.self in
     let kept =
-        goes_on m j.sheet clear (closed_of before) (closed_of after) (setting before.grid) (setting after.grid)
-        (ap setting c.clear.ensures.grid) c.clear.ensures.job (in_closed m j.sheet _ before c.in-Ok.is (j.seen, j.came))
+    goes_on m j.sheet clear (closed_of before) (closed_of after) (setting before.grid) (setting after.grid)
+    (ap setting c.clear.ensures.grid) c.clear.ensures.job (in_closed m j.sheet _ before c.in-Ok.is (j.seen, j.came))
     in
     record { seen = kept.0; came = kept.1 }
 

@@ -15,8 +15,8 @@ invariant_of-job g c =
     let before = c.in-Ok.closed in
     let after = c.search.result in
     let kept =
-        goes_on m j.sheet begin_search (closed_of before) (searched_of after) (setting before.grid) (chosen_from after.search)
-        c.search.ensures.grid c.search.ensures.job (in_closed m j.sheet _ before c.in-Ok.is (j.seen, j.came))
+    goes_on m j.sheet begin_search (closed_of before) (searched_of after) (setting before.grid) (chosen_from after.search)
+    c.search.ensures.grid c.search.ensures.job (in_closed m j.sheet _ before c.in-Ok.is (j.seen, j.came))
     in
     record { seen = kept.0; came = kept.1 }
 

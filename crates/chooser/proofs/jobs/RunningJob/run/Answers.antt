@@ -12,8 +12,8 @@ invariant_of-self g c =
     let before = c.in-Ok.running in
     let after = c.run.new.self in
     let kept =
-        goes_on m j.sheet (run (to_z w32 (of_z w32 c.args.budget))) (searched_of before) (searched_of after) (chosen_from before.search) (chosen_from after.search)
-        c.run.ensures.grid c.run.ensures.job (in_running m j.sheet _ before c.in-Ok.is (j.seen, j.came))
+    goes_on m j.sheet (run (to_z w32 (of_z w32 c.args.budget))) (searched_of before) (searched_of after) (chosen_from before.search) (chosen_from after.search)
+    c.run.ensures.grid c.run.ensures.job (in_running m j.sheet _ before c.in-Ok.is (j.seen, j.came))
     in
     record { seen = kept.0; came = kept.1 }
 
