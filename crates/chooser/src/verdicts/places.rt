@@ -1,5 +1,5 @@
 // What a search found by position, read by place.
-ghost use Rattle.std.specs.Prelude.{◌≡◌, ◌≤◌, length, slice_index};
+ghost use Rattle.std.specs.Prelude.{◌≡◌, ◌≤◌, length, slice_index, ◌==◌};
 ghost use Rattle.std.specs.List.{position};
 ghost use Rattle.rules.specs.Bounds.{most_places};
 ghost use Rattle.rules.specs.Settings.{version_in, by_place, closing_lines};
@@ -19,11 +19,18 @@ fn version_at(part: &Part, places: usize, index: usize) -> u8
     if at < places { part.version(at) } else { 0 }
 }
 
+// The first index at which a place stands in an order.
+fn index_of(order: &[u8], place: u8) -> Option<usize>
+    ensures { result ≡ position (λ listed. listed == place) order.now }
+{
+    order.iter().position(|listed| *listed == place)
+}
+
 // The version of a place in a part-choice that goes by an order, and 0 where it has none.
 fn version_in(order: &[u8], part: &Part, place: u8) -> u8
     ensures { result ≡ version_in order.now (part_of (length order.now) part.now) place }
 {
-    match order.iter().position(|listed| *listed == place) {
+    match index_of(order, place) {
         Some(index) => version_at(part, order.len(), index),
         None => 0,
     }
