@@ -1,5 +1,5 @@
 -- What a catalogue tells of the prices of the choices that a verdict names is what they cost. Assumes nothing.
-use Rattle.std.proofs.Common.{◌≡◌, ℤ, List, ℕ, Some, None, Option, sym, refl, ap, ◌∙◌, subst, arith}
+use Rattle.std.proofs.Common.{◌≡◌, IfSome, ℤ, List, ℕ, Some, None, Option, sym, refl, ap, ◌∙◌, subst, arith}
 use Rattle.std.proofs.Math.Logic.{∥∥₁_map, ∥∥₁_elim}
 use Rattle.std.proofs.Math.IntN.{ℤ_set}
 use Rattle.std.specs.Option.{option_map}
@@ -13,13 +13,15 @@ use Rattle.rules.specs.Grounds.{Ground}
 use Rattle.rules.specs.Calls.{Job, Verdict, closed}
 use Rattle.rules.specs.Histories.{Entry, History, called, limits_of, opened}
 use Rattle.rules.specs.KeptJobs.{CameBy, faultless}
-use Rattle.rules.specs.Settings.{setting, told}
+use Rattle.rules.specs.Settings as settings
+use Rattle.rules.specs.Settings.{seen, setting, told}
 use Rattle.rules.specs.Promises.{Right, RightThroughout, by_verdict}
 use Rattle.rules.proofs.Inside.{amount_inside, joined_same}
 use Rattle.rules.proofs.OpeningTests.{none_faultless}
 use Rattle.rules.proofs.Rights.{right_throughout}
-use Rattle.chooser.specs.Verdicts.{price_asked, PricesAsked, PricesRight, told_of}
+use Rattle.chooser.specs.Verdicts.{price_asked, PricesAsked, PricesRight, seen_in, told_of}
 use Rattle.chooser.specs.declared.verdicts.Choice.{Choice as Named}
+use Rattle.chooser.specs.declared.verdicts.Seen.{Seen}
 use Rattle.chooser.specs.declared.verdicts.Told.{Told}
 use Rattle.chooser.specs.declared.verdicts.Told.TheVariants.{Least, Nothing, Full, Unfinished}
 use Rattle.chooser.proofs.Comings.{Came}
@@ -53,6 +55,10 @@ module _ (m : Meaning) (s : Sheet) where
       (f, (at_last k.1.1 (right_throughout m w s f k.1.1)).saying (told s v.finding) by_verdict))
 
   -- so the prices that are told with it are right
-  pub prices_told : SoundMeaning m → (L : Limits) (gs : List Ground) (v : Verdict) → Came m s (faultless (closed L gs (Some v))) → (t : Told) → told_of t ≡ told s v.finding → PricesAsked m s t → PricesRight m s t
-  prices_told w L gs v came t same asked =
-      prices_right L t (subst (λ x. ∥ Faultless m s × TrueAt m s L x ∥₁) (sym same) (said_true w L gs v came)) asked
+  pub prices_told : SoundMeaning m → (L : Limits) (gs : List Ground) (v : Option Verdict) → Came m s (faultless (closed L gs v)) → (o : Option Seen) → option_map seen_in o ≡ option_map (seen s) v → IfSome o (λ x. PricesAsked m s x.says) → IfSome o (λ x. PricesRight m s x.says)
+  prices_told w L gs v came None same asked = tt
+  prices_told w L gs None came (Some x) same asked = absurd (cc)
+  prices_told w L gs (Some v) came (Some x) same asked =
+      let whole : seen_in x ≡ seen s v = cc in
+      let says : told_of x.says ≡ told s v.finding = ap (λ (y : settings.Seen). y.says) whole in
+      prices_right L x.says (subst (λ t. ∥ Faultless m s × TrueAt m s L t ∥₁) (sym says) (said_true w L gs v came)) asked
