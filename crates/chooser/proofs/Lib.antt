@@ -3,4 +3,6 @@ pub mod Budgets
 pub mod Comings
 pub mod NotNow
 pub mod SheetLimits
+pub mod FirstPlaces
+pub mod Prices
 pub mod Plays

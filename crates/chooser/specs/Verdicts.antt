@@ -1,7 +1,10 @@
 -- Verdicts in memory as those of the rules. Assumes nothing.
-use Rattle.std.specs.Prelude.{◌≡◌, IfSome}
+use Rattle.std.specs.Prelude.{◌≡◌, List, ℕ, ℤ, Option, Result, IfSome}
 use Rattle.std.specs.Option.{option_map}
+use Rattle.std.specs.Result.{result_map_both}
+use Rattle.rules.specs.declared.refusals.Fault.{Fault}
 use Rattle.rules.specs.declared.sheets.Sheet.{Sheet}
+use Rattle.rules.specs.Joinings.{sum_at_most, joined_over}
 use Rattle.rules.specs.Catalogues.{Meaning}
 use Rattle.rules.specs.Choices as choices
 use Rattle.rules.specs.Settings as settings
@@ -21,13 +24,25 @@ told_of (Unfinished best) = choices.says_unfinished (option_map (λ c. c.version
 abbrev pub seen_in : Seen → settings.Seen
 seen_in v = record { says = told_of v.says; steps = v.steps; held = v.held }
 
--- The price of a choice is what it costs.
-abbrev pub Priced : Meaning → Sheet → Choice → Type 0
-Priced m s c = c.price ≡ choices.price m s c.versions.items
+-- What is told of a verdict, in the words of the rules.
+abbrev pub verdict_in : Result (Option Seen) Fault → Result (Option settings.Seen) Fault
+verdict_in told = result_map_both (option_map seen_in) (λ f. f) told
 
 -- So it is with the choice that is named, if one is.
+abbrev pub OfNamed : (Choice → Type 0) → Told → Type 0
+OfNamed P (Least c g) = P c
+OfNamed P (Nothing g) = Unit {0}
+OfNamed P (Full best) = IfSome best P
+OfNamed P (Unfinished best) = IfSome best P
+
+-- The price of the choice that is named, if one is, is what it costs.
 abbrev pub PricesRight : Meaning → Sheet → Told → Type 0
-PricesRight m s (Least c g) = Priced m s c
-PricesRight m s (Nothing g) = Unit {0}
-PricesRight m s (Full best) = IfSome best (Priced m s)
-PricesRight m s (Unfinished best) = IfSome best (Priced m s)
+PricesRight m s t = OfNamed (λ c. c.price ≡ choices.price m s c.versions.items) t
+
+-- What versions by place cost by what a catalogue is asked; what it has not is 0.
+abbrev pub price_asked : Meaning → Sheet → List ℕ → ℤ
+price_asked m s c = joined_over sum_at_most (λ q. settings.amount_in m 0 q (choices.version c q)) s.places
+
+-- The price of the choice that is named, if one is, is that.
+abbrev pub PricesAsked : Meaning → Sheet → Told → Type 0
+PricesAsked m s t = OfNamed (λ c. c.price ≡ price_asked m s c.versions.items) t

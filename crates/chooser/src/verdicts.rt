@@ -35,3 +35,8 @@ pub struct Seen {
     pub steps: u32,
     pub held: usize,
 }
+
+mod places;
+mod tells;
+
+pub(crate) use tells::seen;

@@ -1,4 +1,3 @@
-pub mod Nears
 pub mod KeptRows
 pub mod Versions
 pub mod FirstCheapest

@@ -10,7 +10,7 @@ ghost use Rattle.rules.specs.Openings.{counts_same};
 
 use crate::found::Found;
 use catalogue::Catalogue;
-use joining::{GreatestAtMost, Joining, SumAtLeast, SumAtMost};
+use joining::{GreatestAtMost, Joining, SumAtLeast, SumAtMost, total};
 use rules::{Kind, MOST_PLACES, Refusal, Row, Sheet};
 
 // The versions that are tried, by place, with the sheet and a catalogue that has its counts.
@@ -67,26 +67,11 @@ impl<'a, C: Catalogue> Trial<'a, C> {
         self.catalogue.versions(place).unwrap_or(0)
     }
 
-    // The amount of a row at a place, and 0 where the catalogue has none, as the definition of a total has it.
-    fn amount(&self, row: u8, place: u8) -> i64
-        requires numbered { 1 ≤ place }
-        requires few { place ≤ most_places }
-        ensures { result ≡ amount_in (C.Catalogue.meaning self.now.catalogue.now) row place (version self.now.versions place) }
-    {
-        let version = self.versions[usize::from(place) - 1];
-        self.catalogue.amount(row, place, version).unwrap_or(0)
-    }
-
     // The amounts of a row joined over all places.
     fn joined<J: Joining>(&self, row: u8) -> i64
         ensures { result ≡ joined (guarded (C.Catalogue.meaning self.now.catalogue.now)) self.now.sheet.now J.Joining.rule row self.now.versions }
     {
-        let mut total = J::UNIT;
-        // `1..=places` costs a test more in each turn: twelve parts in a hundred of the whole run, where a tenth is allowed.
-        for place in 1..self.sheet.places + 1 {
-            total = J::join(total, self.amount(row, place));
-        }
-        total
+        total::<J, C>(self.catalogue, row, self.sheet.places, &self.versions)
     }
 
     // What the choice costs.

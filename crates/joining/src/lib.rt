@@ -8,10 +8,12 @@ ghost use Rattle.joining.specs.Held.{held_in_64};
 mod greatest_at_most;
 mod sum_at_least;
 mod sum_at_most;
+mod totals;
 
 pub use greatest_at_most::GreatestAtMost;
 pub use sum_at_least::SumAtLeast;
 pub use sum_at_most::SumAtMost;
+pub use totals::total;
 
 // A search asks of a joining only its laws, so another one can be supplied.
 pub trait Joining {

@@ -1,11 +1,13 @@
 // What a job is asked.
-ghost use Rattle.std.specs.Prelude.{◌≡◌};
+ghost use Rattle.std.specs.Prelude.{◌≡◌, IfOk, IfSome};
 ghost use Rattle.chooser.specs.Models.{kept_closed, kept_running};
-ghost use Rattle.rules.specs.KeptJobs.{fault_of};
+ghost use Rattle.chooser.specs.Verdicts.{verdict_in, PricesRight};
+ghost use Rattle.rules.specs.KeptJobs.{fault_of, limit_told, verdict_told};
 
 use crate::jobs::{ClosedJob, RunningJob};
+use crate::verdicts::{Seen, seen};
 use catalogue::Catalogue;
-use rules::Fault;
+use rules::{Fault, Refusal};
 
 impl<C: Catalogue> ClosedJob<C> {
     // The fault of the opening, if it found one.
@@ -15,6 +17,31 @@ impl<C: Catalogue> ClosedJob<C> {
         match &self.opened {
             Ok(_) => None,
             Err(fault) => Some(*fault),
+        }
+    }
+
+    // The limit in force on a row, that of row 0 being the price cap.
+    pub fn limit(&self, row: u8) -> Result<i64, Fault>
+        ensures { result ≡ limit_told self.now.sheet (kept_closed self.now.opened) row }
+    {
+        match &self.opened {
+            Ok(closed) if row <= self.sheet.last_row => Ok(closed.limits[usize::from(row)]),
+            Ok(_) => Err(Fault::from(Refusal::NoSuchRow)),
+            Err(fault) => Err(*fault),
+        }
+    }
+
+    // The verdict on the last search, or none while the job is unsearched.
+    pub fn verdict(&self) -> Result<Option<Seen>, Fault>
+        ensures told { verdict_in result ≡ verdict_told self.now.sheet (kept_closed self.now.opened) }
+        ensures prices { IfOk result (λ verdict. IfSome verdict (λ v. PricesRight (C.Catalogue.meaning self.now.catalogue) self.now.sheet v.says)) }
+    {
+        match &self.opened {
+            Ok(closed) => {
+                let verdict = closed.verdict.as_ref();
+                Ok(verdict.map(|verdict| seen(&self.sheet, &self.catalogue, verdict)))
+            }
+            Err(fault) => Err(*fault),
         }
     }
 }

@@ -1,7 +1,7 @@
 -- Amounts joined over a few places stay within 64 bits. Assumes nothing.
-use Rattle.std.proofs.Common.{◌≡◌, ℕ, zero, suc, ◌-◌, ◌*◌, ◌≤◌, ltb, leb, List, ℤ, pos, nat_abs, ap, ◌∙◌, suc-mul, arith}
+use Rattle.std.proofs.Common.{◌≡◌, ℕ, zero, suc, ◌+◌, ◌^◌, ◌*◌, ◌<◌, ◌≤◌, ltb, leb, List, ℤ, pos, nat_abs, sym, ap, ap₂, ◌∙◌, suc-mul, arith}
 use Rattle.std.proofs.lemmas.Bool.{cond_both, and_parts, leb-true, ltb-true}
-use Rattle.rules.specs.Bounds.{amount_reach, most_places}
+use Rattle.rules.specs.Bounds.{amount_reach}
 use Rattle.rules.specs.Joinings.{Joining, Laws, joined_over}
 use Rattle.rules.specs.Catalogues.{Meaning, SoundMeaning, has_place, has_amount}
 use Rattle.rules.specs.Choices.{version}
@@ -34,8 +34,9 @@ module _ (m : Meaning) (w : SoundMeaning m) (J : Joining) (laws : Laws J) (row :
       omega (arith, laws.near (joined_over J f q) (f (suc q)), joined_near q, amount_near m w row (suc q) (version c (suc q)), suc-mul (suc q) amount_reach)
 
   -- one place more
-  pub joined_more : (q : ℕ) → 1 ≤ q → q ≤ most_places → held_in_64 (J.join (joined_over J f (q - 1)) (f q)) ≡ joined_over J f q
-  joined_more zero l h = absurd (omega arith)
-  joined_more (suc q) l h =
-      let at : suc q - 1 ≡ q = omega arith in
-      ap (λ x. held_in_64 (J.join (joined_over J f x) (f (suc q)))) at ∙ held_near (joined_over J f (suc q)) (omega (arith, joined_near (suc q), suc-mul (suc q) amount_reach))
+  pub joined_more : (q : ℕ) (joined amount : ℤ) → q < 2 ^ 8 → joined ≡ joined_over J f q → amount ≡ f (q + 1) → held_in_64 (J.join joined amount) ≡ joined_over J f (q + 1)
+  joined_more q joined amount h j a =
+      let at : q + 1 ≡ suc q = omega arith in
+      ap₂ (λ x y. held_in_64 (J.join x y)) j (a ∙ ap f at)
+      ∙ held_near (joined_over J f (suc q)) (omega (arith, joined_near (suc q), suc-mul (suc q) amount_reach))
+      ∙ ap (joined_over J f) (sym at)
