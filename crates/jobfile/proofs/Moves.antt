@@ -1,5 +1,5 @@
 -- One field more leads from the front of a valid job to the front of one. Assumes nothing.
-use Rattle.std.proofs.Common.{◌≡◌, ℕ, ◌<◌, Bool, true, false, cond, eqb, ltb, List, [], ◌∷◌, ◌++◌, length, None, sym, refl, ap, ◌∙◌, subst, append_assoc, append-nil, arith, length-append}
+use Rattle.std.proofs.Common.{◌≡◌, ℕ, ◌<◌, Bool, true, false, cond, eqb, ltb, List, [], ◌∷◌, ◌++◌, length, None, ◌≢◌, sym, refl, ap, ◌∙◌, subst, append_assoc, append-nil, arith, length-append}
 use Rattle.std.specs.List.{AllByRecursion}
 use Rattle.std.proofs.ByRecursion.{All-append}
 use Rattle.std.proofs.lemmas.List.{map_push}
@@ -32,6 +32,10 @@ no_next e = absurd (cc)
 cond_next : (b : Bool) {f : Field} {a d : Section} → cond b (next f a) None ≡ next f d → (b ≡ true) × (a ≡ d)
 cond_next true e = (refl, same_next e)
 cond_next false e = no_next e
+
+-- a list with one more behind it isn't empty
+pushed : {X : Type 0} (xs : List X) (x : X) → xs ++ (x ∷ []) ≢ []
+pushed xs x e = absurd (omega (arith, length-append xs (x ∷ []), ap length e))
 
 module _ (j : Stated) (at : ℕ) where
   -- that may come, and is as it should be
@@ -102,23 +106,23 @@ module _ (j : Stated) (at : ℕ) where
   moves section.Versions (version q zs) =
       to section.Versions (version q zs) section.Versions (λ g k. ((late_version j q zs at k.0 k.1 k.2 g.0 g.2, k.1, k.2), entries_version j q zs at k.0 k.1 k.2 g.0 g.2))
   moves section.Versions (ladder q l) =
-      to section.Versions (ladder q l) section.Ladders (λ g k. ((late_ladder j q l at k.0 k.2 g.0 g.1 g.2, k.2), entries_ladder j q l at k.0 k.2 g.0 g.1 g.2))
+      to section.Versions (ladder q l) section.Ladders (λ g k. ((late_ladder j q l at k.0 k.2 g.0 g.1 g.2, pushed j.ladders l, k.2), entries_ladder j q l at k.0 k.2 g.0 g.1 g.2))
   moves section.Versions (call r) =
-      to section.Versions (call r) section.Calls (λ g k. (late_call j r at k.0 g.1 g.2, entries_call j r at k.0 g.1 g.2))
+      to section.Versions (call r) section.Calls (λ g k. ((late_call j r at k.0 g.1 g.2, pushed j.calls r), entries_call j r at k.0 g.1 g.2))
   moves section.Ladders (sheet n m cap) = λ d h. no_next h
   moves section.Ladders (row r) = λ d h. no_next h
   moves section.Ladders (order ps) = λ d h. no_next h
   moves section.Ladders (version q zs) = λ d h. no_next h
   moves section.Ladders (ladder q l) =
-      to section.Ladders (ladder q l) section.Ladders (λ g k. ((late_ladder j q l at k.0 k.1 g.0 g.1 g.2, k.1), entries_ladder j q l at k.0 k.1 g.0 g.1 g.2))
+      to section.Ladders (ladder q l) section.Ladders (λ g k. ((late_ladder j q l at k.0 k.2 g.0 g.1 g.2, pushed j.ladders l, k.2), entries_ladder j q l at k.0 k.2 g.0 g.1 g.2))
   moves section.Ladders (call r) =
-      to section.Ladders (call r) section.Calls (λ g k. (late_call j r at k.0 g.1 g.2, entries_call j r at k.0 g.1 g.2))
+      to section.Ladders (call r) section.Calls (λ g k. ((late_call j r at k.0 g.1 g.2, pushed j.calls r), entries_call j r at k.0 g.1 g.2))
   moves section.Calls (sheet n m cap) = λ d h. no_next h
   moves section.Calls (row r) = λ d h. no_next h
   moves section.Calls (order ps) = λ d h. no_next h
   moves section.Calls (version q zs) = λ d h. no_next h
   moves section.Calls (ladder q l) = λ d h. no_next h
-  moves section.Calls (call r) = to section.Calls (call r) section.Calls (λ g k. (late_call j r at k g.1 g.2, entries_call j r at k g.1 g.2))
+  moves section.Calls (call r) = to section.Calls (call r) section.Calls (λ g k. ((late_call j r at k.0 g.1 g.2, pushed j.calls r), entries_call j r at k.0 g.1 g.2))
 
 -- a reading that is the front of a valid job, and its fields
 abbrev pub FrontOf : Reading → Type 0

@@ -29,7 +29,7 @@ late_front section.Start j e f = clash {b = true} refl e
 late_front section.Rows j e f = clash {b = true} refl e
 late_front section.Versions j e f = (f.0, refl)
 late_front section.Ladders j e f = (f.0, refl)
-late_front section.Calls j e f = (f, refl)
+late_front section.Calls j e f = (f.0, refl)
 
 complete : (j : Stated) → Late j → length j.listed + length j.ladders ≡ j.places → length (encode j) ≤ most_bytes → Valid j
 complete j h count short =

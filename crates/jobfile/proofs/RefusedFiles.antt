@@ -1,5 +1,5 @@
 -- Every refusal says what it should. Assumes nothing.
-use Rattle.std.proofs.Common.{◌≡◌, ℕ, zero, suc, ◌+◌, ◌*◌, ◌≤◌, eqb, leb, List, [], ◌∷◌, ◌++◌, length, take, drop, Some, None, Ok, Err, Option, Result, sym, refl, ap, ◌∙◌, subst, append_assoc, append-nil, arith, length-append, length-drop}
+use Rattle.std.proofs.Common.{◌≡◌, ℕ, zero, suc, ◌+◌, ◌*◌, ◌≤◌, eqb, leb, false, List, [], ◌∷◌, ◌++◌, length, take, drop, Some, None, Ok, Err, Option, Result, sym, refl, ap, ◌∙◌, subst, append_assoc, append-nil, arith, length-append, length-drop}
 use Rattle.std.proofs.lemmas.List.{take-append-drop}
 use Rattle.std.proofs.lemmas.Bool.{leb-true, leb-false, le-leb, eqb-true, eqb-false, cond-true, cond-false}
 use Rattle.rules.specs.declared.refusals.Fault.{Fault}
@@ -14,6 +14,7 @@ use Rattle.jobfile.specs.Refusing.{FirstFailing, FieldFails, head_cut, tag_wrong
 use Rattle.jobfile.specs.Theorems.{RefusedLaw}
 use Rattle.jobfile.proofs.TestLoops.{failed_tests}
 use Rattle.jobfile.proofs.Codec.{Bytes, bytes_drop}
+use Rattle.jobfile.proofs.Decoding.{fits_decoded}
 use Rattle.jobfile.proofs.FieldReads.{refused_ok, says, field_reads}
 use Rattle.jobfile.proofs.FileRuns.{read_runs}
 use Rattle.jobfile.proofs.Moves.{FrontOf, fields_of, takes_front, runs_front}
@@ -52,7 +53,7 @@ module _ (at : ℕ) (s : Reading) (f : Fault) (a b c : ℕ) (tail : List ℕ) (s
       (λ y.
       let w = says at s a b c tail small p said fit (leb-true _ _ y) in
       let e : Entry = decode s.job p.field (take len tail) in
-      contents_wrong e p.section (said ∙ ap (λ k. next k p.section) (sym w.kind)) w.written
+      contents_wrong e p.section (said ∙ ap (λ k. next k p.section) (sym w.kind)) (fit ∙ ap (field_length s.job) (sym w.kind)) w.written (fits_decoded s.job p.field (take len tail) w.bytes).long
       (tests_refuse (content_tests s.job e at) _ f (sym (cond-true (leb len (length tail)) _ _ y) ∙ h₁)))
       (λ y. subst (FieldFails s.section s.job bs at) (err_same (sym (cond-false (leb len (length tail)) _ _ y) ∙ h₁)) (body_cut p (omega arith) said fit (omega (arith, leb-false _ _ y)))))
       (λ x. subst (FieldFails s.section s.job bs at) (err_same (sym (cond-false (eqb len (field_length s.job p.field)) _ _ x) ∙ h)) (length_wrong p (omega arith) said (eqb-false _ _ x)))
@@ -61,29 +62,32 @@ module _ (at : ℕ) (s : Reading) (f : Fault) (a b c : ℕ) (tail : List ℕ) (s
   announced_fails None said h = subst (FieldFails s.section s.job bs at) (err_same h) (tag_wrong (omega arith) said)
   announced_fails (Some p) said h = rest_fails p said h
 
-field_fails : (at : ℕ) (s : Reading) (f : Fault) (bs : List ℕ) → Bytes bs → read_field s bs at ≡ Err f → FieldFails s.section s.job bs at f
-field_fails at s f [] small h = subst (FieldFails s.section s.job [] at) (err_same h) (head_cut (omega arith))
-field_fails at s f (a ∷ []) small h = subst (FieldFails s.section s.job (a ∷ []) at) (err_same h) (head_cut (omega arith))
-field_fails at s f (a ∷ (b ∷ [])) small h = subst (FieldFails s.section s.job (a ∷ (b ∷ [])) at) (err_same h) (head_cut (omega arith))
-field_fails at s f (a ∷ (b ∷ (c ∷ tail))) small h =
+field_fails : (at : ℕ) (s : Reading) (f : Fault) (bs : List ℕ) → 1 ≤ length bs → Bytes bs → read_field s bs at ≡ Err f → FieldFails s.section s.job bs at f
+field_fails at s f [] some small h = absurd (omega (arith, some))
+field_fails at s f (a ∷ []) some small h = subst (FieldFails s.section s.job (a ∷ []) at) (err_same h) (head_cut some (omega arith))
+field_fails at s f (a ∷ (b ∷ [])) some small h = subst (FieldFails s.section s.job (a ∷ (b ∷ [])) at) (err_same h) (head_cut some (omega arith))
+field_fails at s f (a ∷ (b ∷ (c ∷ tail))) some small h =
     announced_fails at s f a b c tail small (announced s.job s.section a) refl (sym (cond-true (leb 3 (length (a ∷ (b ∷ (c ∷ tail))))) _ _ (le-leb 3 (length (a ∷ (b ∷ (c ∷ tail)))) (omega arith))) ∙ h)
 
 bytes_push : (es fs : List Entry) → bytes_of (es ++ fs) ≡ bytes_of es ++ bytes_of fs
 bytes_push [] fs = refl
 bytes_push (e ∷ es) fs = ap (λ x. field_bytes e ++ x) (bytes_push es fs) ∙ sym (append_assoc (field_bytes e) (bytes_of es) (bytes_of fs))
 
-fields_fail : (most : ℕ) (s : Reading) (f : Fault) (bs : List ℕ) → FrontOf s → Bytes bs → length bs ≤ most → (at : ℕ) → at ≡ length (bytes_of (fields_of s)) → read_fields most s bs at ≡ Err f → Refused (bytes_of (fields_of s) ++ bs) f
-fields_fail zero s f bs front small l at here h = absurd (refused_ok (sym h))
-fields_fail (suc most) s f bs front small l at here h =
+fields_fail : (most : ℕ) (s : Reading) (f : Fault) (bs : List ℕ) → FrontOf s → Bytes bs → length bs ≤ most → length (bytes_of (fields_of s) ++ bs) ≤ most_bytes → (at : ℕ) → at ≡ length (bytes_of (fields_of s)) → read_fields most s bs at ≡ Err f → Refused (bytes_of (fields_of s) ++ bs) f
+fields_fail zero s f bs front small l short at here h = absurd (refused_ok (sym h))
+fields_fail (suc most) s f bs front small l short at here h =
     split (eqb (length bs) 0)
     (λ z. absurd (refused_ok (sym (sym (cond-true (eqb (length bs) 0) (Ok s) _ z) ∙ h))))
-    (λ z. by (λ t bs. fields_fail most t f bs) (read_field s bs at) refl (sym (cond-false (eqb (length bs) 0) (Ok s) _ z) ∙ h))
+    (λ z. by (some_left z) (λ t bs. fields_fail most t f bs) (read_field s bs at) refl (sym (cond-false (eqb (length bs) 0) (Ok s) _ z) ∙ h))
   where
-    by : ((t : Reading) (bs : List ℕ) → FrontOf t → Bytes bs → length bs ≤ most → (at : ℕ) → at ≡ length (bytes_of (fields_of t)) → read_fields most t bs at ≡ Err f → Refused (bytes_of (fields_of t) ++ bs) f) → (o : Result FieldRead Fault) → read_field s bs at ≡ o → and_then o (λ p. read_fields most p.reading (drop p.size bs) (at + p.size)) ≡ Err f → Refused (bytes_of (fields_of s) ++ bs) f
-    by later (Err g) e k =
+    some_left : eqb (length bs) 0 ≡ false → 1 ≤ length bs
+    some_left z = omega (arith, eqb-false (length bs) 0 z)
+
+    by : 1 ≤ length bs → ((t : Reading) (bs : List ℕ) → FrontOf t → Bytes bs → length bs ≤ most → length (bytes_of (fields_of t) ++ bs) ≤ most_bytes → (at : ℕ) → at ≡ length (bytes_of (fields_of t)) → read_fields most t bs at ≡ Err f → Refused (bytes_of (fields_of t) ++ bs) f) → (o : Result FieldRead Fault) → read_field s bs at ≡ o → and_then o (λ p. read_fields most p.reading (drop p.size bs) (at + p.size)) ≡ Err f → Refused (bytes_of (fields_of s) ++ bs) f
+    by some later (Err g) e k =
         let same : g ≡ f = err_same k in
-        at_field s.section s.job bs front (subst (λ n. FieldFails s.section s.job bs n f) here (field_fails at s f bs small (e ∙ ap Err same)))
-    by later (Ok r) e k =
+        at_field s.section s.job bs front short (subst (λ n. FieldFails s.section s.job bs n f) here (field_fails at s f bs some small (e ∙ ap Err same)))
+    by some later (Ok r) e k =
         let w = field_reads at s bs r small e in
         let t : Reading = r.reading in
         let m = takes_front s w.entry t w.takes front in
@@ -93,7 +97,7 @@ fields_fail (suc most) s f bs front small l at here h =
         ∙ ap (λ x. bytes_of (fields_of s) ++ x) (ap (λ x. x ++ drop r.size bs) (sym w.written) ∙ take-append-drop r.size bs) in
         let moved : at + r.size ≡ length (bytes_of (fields_of t)) = omega (arith, here, w.size, ap length more, length-append (bytes_of (fields_of s)) (field_bytes w.entry)) in
         subst (λ xs. Refused xs f) same
-        (later t (drop r.size bs) m.0 (bytes_drop r.size bs small) (omega (arith, length-drop r.size bs, w.size)) (at + r.size) moved k)
+        (later t (drop r.size bs) m.0 (bytes_drop r.size bs small) (omega (arith, length-drop r.size bs, w.size)) (omega (arith, short, ap length same)) (at + r.size) moved k)
 
 end_fails : (s : Reading) (f : Fault) (file : List ℕ) → FrontOf s → file ≡ bytes_of (fields_of s) → finish s (length file) ≡ Err f → Refused file f
 end_fails s f file front e h =
@@ -112,12 +116,12 @@ pub refused_law : RefusedLaw
 unfolding read
 refused_law bs small f h =
     split (leb (length bs) most_bytes)
-    (λ x. by (read_fields (length bs) fresh bs 0) refl (sym (cond-true (leb (length bs) most_bytes) _ _ x) ∙ h))
+    (λ x. by (leb-true _ _ x) (read_fields (length bs) fresh bs 0) refl (sym (cond-true (leb (length bs) most_bytes) _ _ x) ∙ h))
     (λ x. subst (Refused bs) (err_same (sym (cond-false (leb (length bs) most_bytes) _ _ x) ∙ h)) (too_long (leb-false _ _ x)))
   where
-    by : (o : Result Reading Fault) → read_fields (length bs) fresh bs 0 ≡ o → and_then o (λ s. finish s (length bs)) ≡ Err f → Refused bs f
-    by (Err g) e k = let same : g ≡ f = err_same k in fields_fail (length bs) fresh f bs tt small (omega arith) 0 refl (e ∙ ap Err same)
-    by (Ok s) e k =
+    by : length bs ≤ most_bytes → (o : Result Reading Fault) → read_fields (length bs) fresh bs 0 ≡ o → and_then o (λ s. finish s (length bs)) ≡ Err f → Refused bs f
+    by short (Err g) e k = let same : g ≡ f = err_same k in fields_fail (length bs) fresh f bs tt small (omega arith) short 0 refl (e ∙ ap Err same)
+    by short (Ok s) e k =
         let r = read_runs (length bs) 0 fresh s bs small (omega arith) e in
         let m = runs_front r.runs tt in
         end_fails s f bs m.0 (r.written ∙ ap bytes_of (sym m.1)) k

@@ -1,5 +1,6 @@
 -- What a refusal of a file says. Assumes nothing.
-use Rattle.std.specs.Prelude.{◌≡◌, ℕ, suc, ◌+◌, ◌*◌, ◌<◌, ◌≤◌, true, List, [], ◌∷◌, ◌++◌, length, take, Some, None, Option, ◌≢◌, slice_index, unsigned_abs}
+use Rattle.std.specs.Prelude.{◌≡◌, ℕ, suc, ◌+◌, ◌*◌, ◌<◌, ◌≤◌, true, List, [], ◌∷◌, ◌++◌, length, take, Some, None, Option, ◌≢◌, FitsSigned, slice_index, unsigned_abs}
+use Rattle.std.specs.Int.{w32}
 use Rattle.std.specs.List.{AllByRecursion}
 use Rattle.rules.specs.declared.refusals.Fault.{Fault}
 use Rattle.rules.specs.declared.refusals.Refusal.TheVariants.{FileTooLong, FieldCut, TagNotAllowed, WrongLength, CountsDiffer}
@@ -10,7 +11,7 @@ use Rattle.jobfile.specs.declared.fields.Section.{Section}
 use Rattle.jobfile.specs.declared.fields.Section.TheVariants as section
 use Rattle.jobfile.specs.Bounds.{most_bytes, most_calls}
 use Rattle.jobfile.specs.Stated.{Stated}
-use Rattle.jobfile.specs.Writing.{Entry, field_of, field_bytes, bytes_of, early_entries, entries}
+use Rattle.jobfile.specs.Writing.{Entry, field_of, numbers, field_bytes, bytes_of, early_entries, entries}
 use Rattle.jobfile.specs.Validity.{ValidRow, ValidPlace, ValidLadder, ValidCall}
 use Rattle.jobfile.specs.Reading.{Announced, next, announced, field_length, content_tests, early}
 
@@ -44,8 +45,8 @@ abbrev pub Front : Section → Stated → Type 0
 Front section.Start j = Unit {0}
 Front section.Rows j = Early j
 Front section.Versions j = Late j × (j.ladders ≡ []) × (j.calls ≡ [])
-Front section.Ladders j = Late j × (j.calls ≡ [])
-Front section.Calls j = Late j
+Front section.Ladders j = Late j × (j.ladders ≢ []) × (j.calls ≡ [])
+Front section.Calls j = Late j × (j.calls ≢ [])
 
 -- The fields of that front.
 abbrev pub so_far : Section → Stated → List Entry
@@ -73,7 +74,7 @@ length_in bs = slice_index bs 1 * 256 + slice_index bs 2
 -- The field at the front of these bytes, which begins at a byte after the front of a job, fails a test, and none before it.
 pub data FieldFails (c : Section) (j : Stated) (bs : List ℕ) (at : ℕ) : Fault → Type 0 where
   -- the head is cut
-  head_cut : length bs < 3 → FieldFails c j bs at (fault_in FieldCut at 0 0 0)
+  head_cut : 1 ≤ length bs → length bs < 3 → FieldFails c j bs at (fault_in FieldCut at 0 0 0)
   -- the tag isn't allowed there
   tag_wrong : 3 ≤ length bs → announced j c (tag_in bs) ≡ None → FieldFails c j bs at (fault_in TagNotAllowed at 0 0 0)
   -- the length isn't the tag's
@@ -81,14 +82,14 @@ pub data FieldFails (c : Section) (j : Stated) (bs : List ℕ) (at : ℕ) : Faul
   -- the body is cut
   body_cut : (p : Announced) → 3 ≤ length bs → announced j c (tag_in bs) ≡ Some p → length_in bs ≡ field_length j p.field → length bs < 3 + length_in bs → FieldFails c j bs at (fault_in FieldCut at 0 0 0)
   -- the field is the writing of something that may come there, and its contents fail a test
-  contents_wrong : {f : Fault} (e : Entry) (d : Section) → announced j c (tag_in bs) ≡ next (field_of e) d → take (3 + length_in bs) bs ≡ field_bytes e → FirstFailing (content_tests j e at) f → FieldFails c j bs at f
+  contents_wrong : {f : Fault} (e : Entry) (d : Section) → announced j c (tag_in bs) ≡ next (field_of e) d → length_in bs ≡ field_length j (field_of e) → take (3 + length_in bs) bs ≡ field_bytes e → AllByRecursion (FitsSigned w32) (numbers e) → FirstFailing (content_tests j e at) f → FieldFails c j bs at f
 
 -- Why a file is refused with a fault.
 pub data Refused : List ℕ → Fault → Type 0 where
   -- it is too long
   too_long : {bs : List ℕ} → most_bytes < length bs → Refused bs (fault_in FileTooLong most_bytes 0 0 0)
   -- up to a byte it is the writing of the front of a job, and the field that begins there fails a test
-  at_field : {f : Fault} (c : Section) (j : Stated) (bs : List ℕ) → Front c j → FieldFails c j bs (length (bytes_of (so_far c j))) f → Refused (bytes_of (so_far c j) ++ bs) f
+  at_field : {f : Fault} (c : Section) (j : Stated) (bs : List ℕ) → Front c j → length (bytes_of (so_far c j) ++ bs) ≤ most_bytes → FieldFails c j bs (length (bytes_of (so_far c j))) f → Refused (bytes_of (so_far c j) ++ bs) f
   -- it ends before its order
   no_order : (c : Section) (j : Stated) → Front c j → early c ≡ true → Refused (bytes_of (so_far c j)) (fault_in TagNotAllowed (length (bytes_of (so_far c j))) 0 0 0)
   -- it is the writing of a job in which places are missing
