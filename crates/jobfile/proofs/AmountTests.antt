@@ -6,7 +6,7 @@ use Rattle.rules.specs.declared.refusals.Fault.{Fault}
 use Rattle.rules.specs.Bounds.{greatest_amount}
 use Rattle.rules.specs.Openings.{test}
 use Rattle.rules.proofs.TestLists.{Passed, test_passed, passed_test, each_at, each_all}
-use Rattle.jobfile.specs.Reading.{amount_good, row_amount_tests}
+use Rattle.jobfile.specs.Contents.{amount_good, row_amount_tests}
 
 module _ (m : ℕ) (amount : ℕ → ℤ) (bad : ℕ → Fault) where
   pub amounts_within : AllByRecursion Passed (row_amount_tests m amount bad) → (r : ℕ) → r ≤ m → nat_abs (amount r) ≤ greatest_amount

@@ -15,6 +15,7 @@ pub mod FieldSteps
 pub mod FieldLoops
 pub mod WholeReads
 pub mod SameAnswers
+pub mod Sections
 pub mod Fronts
 pub mod Moves
 pub mod Written

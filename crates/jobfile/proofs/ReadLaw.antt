@@ -14,7 +14,8 @@ use Rattle.jobfile.specs.Theorems.{ReadLaw}
 use Rattle.jobfile.proofs.Codec.{Bytes}
 use Rattle.jobfile.proofs.FieldReads.{refused_ok, ok_same, passed_cond}
 use Rattle.jobfile.proofs.FileRuns.{runs_read, passed_then, read_runs}
-use Rattle.jobfile.specs.Refusing.{Late, Front, so_far}
+use Rattle.jobfile.specs.Refusing.{Late}
+use Rattle.jobfile.proofs.Sections.{late_front}
 use Rattle.jobfile.proofs.Moves.{runs_front}
 use Rattle.jobfile.proofs.Written.{section_after, last_section, written_runs}
 
@@ -23,13 +24,6 @@ use Rattle.jobfile.proofs.Written.{section_after, last_section, written_runs}
 passed_else : {X : Type 0} {x : X} (b : Bool) (f : Fault) (r : Result X Fault) → cond b (Err f) r ≡ Ok x → (b ≡ false) × (r ≡ Ok x)
 passed_else true f r e = absurd (refused_ok e)
 passed_else false f r e = (refl, e)
-
-pub late_front : (c : Section) (j : Stated) → early c ≡ false → Front c j → Late j × (so_far c j ≡ entries j)
-late_front section.Start j e f = clash {b = true} refl e
-late_front section.Rows j e f = clash {b = true} refl e
-late_front section.Versions j e f = (f.0, refl)
-late_front section.Ladders j e f = (f.0, refl)
-late_front section.Calls j e f = (f.0, refl)
 
 complete : (j : Stated) → Late j → length j.listed + length j.ladders ≡ j.places → length (encode j) ≤ most_bytes → Valid j
 complete j h count short =
@@ -59,7 +53,7 @@ accepted bs small j h =
     let d = passed_cond (eqb (length s.job.listed + length s.job.ladders) s.job.places) _ _ c.1 in
     let same : s.job ≡ j = ok_same d.1 in
     let r = read_runs (length bs) 0 fresh s bs small (omega arith) b.1 in
-    let f = runs_front r.runs tt in
+    let f = runs_front r.runs refl in
     let l = late_front s.section s.job c.0 f.0 in
     let writing : bs ≡ encode s.job = r.written ∙ ap bytes_of (sym f.1 ∙ l.1) in
     let short : length bs ≤ most_bytes = leb-true _ _ a.0 in

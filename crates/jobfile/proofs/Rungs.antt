@@ -10,9 +10,9 @@ use Rattle.std.proofs.lemmas.List.{length-map, get_or-map, take-map, drop-drop}
 use Rattle.rules.specs.Numbers.{number_at}
 use Rattle.rules.specs.Catalogues.{rung}
 use Rattle.catalogue.specs.declared.rung.Rung.{Rung}
-use Rattle.jobfile.specs.Stated.{RungStated}
+use Rattle.jobfile.specs.Stated.{RungStated, no_rung, rung_amount}
 use Rattle.jobfile.specs.InMemory.{rungs_of}
-use Rattle.jobfile.specs.Reading.{no_rung, numbers_in, rungs_in, rung_amount}
+use Rattle.jobfile.specs.Reading.{numbers_in, rungs_in}
 use Rattle.jobfile.proofs.Codec.{number_drop}
 
 -- a rung as it is stated

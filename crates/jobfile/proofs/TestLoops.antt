@@ -4,7 +4,8 @@ use Rattle.std.proofs.lemmas.Bool.{cases_lt, le-leb, lt-leb}
 use Rattle.rules.specs.declared.refusals.Fault.{Fault}
 use Rattle.rules.specs.Bounds.{greatest_amount}
 use Rattle.rules.specs.Openings.{each_to, first_fault, test}
-use Rattle.jobfile.specs.Reading.{after_tests, amount_good, row_amount_tests}
+use Rattle.jobfile.specs.Contents.{amount_good, row_amount_tests}
+use Rattle.jobfile.specs.Reading.{after_tests}
 
 -- what tests come to, after tests that found nothing and before any others
 first_after : (xs ys : List (Option Fault)) → first_fault xs ≡ None → first_fault (xs ++ ys) ≡ first_fault ys

@@ -24,10 +24,11 @@ use Rattle.jobfile.specs.declared.fields.Field.TheVariants as field
 use Rattle.jobfile.specs.declared.fields.Section.{Section}
 use Rattle.jobfile.specs.declared.fields.Section.TheVariants as section
 use Rattle.jobfile.specs.Bounds.{most_calls}
-use Rattle.jobfile.specs.Stated.{LadderStated, PlaceStated, Stated}
+use Rattle.jobfile.specs.Stated.{LadderStated, PlaceStated, Stated, rung_amount, no_rung}
 use Rattle.jobfile.specs.Writing.{sheet, row, order, version, ladder, call, field_bytes, bytes_of, version_entries, listed_entries, ladder_entries, entries}
 use Rattle.jobfile.specs.Validity.{ValidRow, ValidVersion, ValidPlace, ValidLadder, ValidCall, Valid}
-use Rattle.jobfile.specs.Reading.{Reading, fresh, next, announced, rung_amount, no_rung, row_amount_tests}
+use Rattle.jobfile.specs.Contents.{row_amount_tests}
+use Rattle.jobfile.specs.Reading.{Reading, fresh, next, announced}
 use Rattle.jobfile.proofs.AmountTests.{within_amounts}
 use Rattle.jobfile.proofs.FieldReads.{Takes}
 use Rattle.jobfile.proofs.FileRuns.{Runs, stop, go, runs_join}

@@ -4,7 +4,8 @@ use Rattle.rules.specs.declared.refusals.Fault.{Fault}
 use Rattle.rules.specs.Openings.{each_to, first_fault}
 use Rattle.jobfile.specs.declared.bodies.LadderBody.{LadderBody}
 use Rattle.jobfile.specs.Bodies.{amount_of}
-use Rattle.jobfile.specs.Reading.{after_tests, row_amount_tests, amount_fault}
+use Rattle.jobfile.specs.Contents.{row_amount_tests, amount_fault}
+use Rattle.jobfile.specs.Reading.{after_tests}
 use Rattle.jobfile.proofs.TestLoops.{each_more, each_fails, passed_tests, failed_tests}
 use Rattle.jobfile.proofs.bodies.LadderBody.check_versions.Goals as goal
 
