@@ -21,6 +21,7 @@ pub mod Moves
 pub mod Written
 pub mod ReadLaw
 pub mod RefusedFiles
+pub mod MetRefusals
 pub mod RightlyRead
 pub mod OpensWell
 pub mod WorkedFiles

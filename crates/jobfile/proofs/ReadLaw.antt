@@ -17,7 +17,7 @@ use Rattle.jobfile.proofs.FileRuns.{runs_read, passed_then, read_runs}
 use Rattle.jobfile.specs.Refusing.{Late}
 use Rattle.jobfile.proofs.Sections.{late_front}
 use Rattle.jobfile.proofs.Moves.{runs_front}
-use Rattle.jobfile.proofs.Written.{section_after, last_section, written_runs}
+use Rattle.jobfile.proofs.Written.{section_after, last_section, late_runs}
 
 -- ---- what is accepted is stated
 
@@ -61,17 +61,31 @@ accepted bs small j h =
 
 -- ---- what is stated is accepted
 
-late_section : {X Y : Type 0} (xs : List X) (ys : List Y) → early (section_after (section_after section.Versions section.Ladders xs) section.Calls ys) ≡ false
+pub late_section : {X Y : Type 0} (xs : List X) (ys : List Y) → early (section_after (section_after section.Versions section.Ladders xs) section.Calls ys) ≡ false
 late_section [] [] = refl
 late_section (x ∷ xs) [] = refl
 late_section xs (y ∷ ys) = refl
+
+valid_late : (j : Stated) → Valid j → Late j
+valid_late j v =
+    record {
+      counts = record { some_place = v.some_place; few_places = v.few_places; few_rows = v.few_rows; cap = v.cap };
+      row_count = v.row_count;
+      rows = v.rows;
+      order = v.order;
+      place_count = omega (arith, v.place_count);
+      listed = v.listed;
+      ladders = v.ladders;
+      few_calls = v.few_calls;
+      calls = v.calls;
+    }
 
 stated : (j : Stated) → Valid j → read (encode j) ≡ Ok j
 unfolding read
 stated j v =
     cond-true (leb (length (encode j)) most_bytes) _ _ (le-leb _ _ v.short)
-    ∙ ap (λ o. and_then o (λ s. finish s (length (encode j)))) (runs_read (length (encode j)) (written_runs j v) (omega arith))
-    ∙ cond-false (early (last_section j v)) _ _ (late_section j.ladders j.calls)
+    ∙ ap (λ o. and_then o (λ s. finish s (length (encode j)))) (runs_read (length (encode j)) (late_runs j (valid_late j v)) (omega arith))
+    ∙ cond-false (early (last_section j)) _ _ (late_section j.ladders j.calls)
     ∙ cond-true (eqb (length j.listed + length j.ladders) j.places) _ _ (eq-eqb _ _ v.place_count)
 
 pub read_law : ReadLaw

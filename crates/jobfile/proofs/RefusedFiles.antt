@@ -12,7 +12,6 @@ use Rattle.jobfile.specs.Writing.{Entry, field_bytes, bytes_of, field_length}
 use Rattle.jobfile.specs.Contents.{content_tests}
 use Rattle.jobfile.specs.Reading.{Reading, fresh, Announced, next, announced, decode, after_tests, and_then, FieldRead, read_rest, read_announced, read_field, read_fields, early, finish, read}
 use Rattle.jobfile.specs.Refusing.{FirstFailing, Begins, FieldFails, head_cut, tag_wrong, length_wrong, body_cut, contents_wrong, Refused, too_long, at_field, no_order, places_missing}
-use Rattle.jobfile.specs.Theorems.{RefusedLaw}
 use Rattle.jobfile.proofs.TestLoops.{failed_tests}
 use Rattle.jobfile.proofs.Codec.{Bytes, bytes_drop}
 use Rattle.jobfile.proofs.Decoding.{fits_decoded}
@@ -121,9 +120,9 @@ end_fails s f file front short e h =
     (subst (λ es. Refused (bytes_of es) (fault_in CountsDiffer 0 found 0 (suc s.job.last_row))) (sym l.1)
     (places_missing s.job l.0 (eqb-false _ _ y) (subst (λ es. length (bytes_of es) ≤ most_bytes) l.1 within))))))
 
-pub refused_law : RefusedLaw
+pub read_refused : (bs : List ℕ) → Bytes bs → (f : Fault) → read bs ≡ Err f → Refused bs f
 unfolding read
-refused_law bs small f h =
+read_refused bs small f h =
     split (leb (length bs) most_bytes)
     (λ x. by (leb-true _ _ x) (read_fields (length bs) fresh bs 0) refl (sym (cond-true (leb (length bs) most_bytes) _ _ x) ∙ h))
     (λ x. subst (Refused bs) (err_same (sym (cond-false (leb (length bs) most_bytes) _ _ x) ∙ h)) (too_long (leb-false _ _ x)))

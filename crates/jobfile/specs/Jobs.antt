@@ -42,7 +42,7 @@ job_meaning file j =
 pub record RightlyRead (file : List ℕ) (answer : Result Job Fault) : Type 0 where
   -- it is accepted as a job exactly when it states that job
   pub accepted : (j : Stated) → (says file answer ≡ Ok j → States file j) × (States file j → says file answer ≡ Ok j)
-  -- it is refused for the reason that its fault names
-  pub refused : (f : Fault) → answer ≡ Err f → Refused file f
+  -- it is refused with a fault exactly when it meets the reason that the fault names
+  pub refused : (f : Fault) → (answer ≡ Err f → Refused file f) × (Refused file f → answer ≡ Err f)
   -- its catalogue answers every question as that of the stated job does
   pub catalogue : IfOk answer (λ j. SameAnswers (job_meaning file j) (stated_meaning (stated_by file j)))

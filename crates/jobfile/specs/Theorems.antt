@@ -14,9 +14,9 @@ use Rattle.jobfile.specs.Opened.{stated_sheet, stated_meaning}
 abbrev pub ReadLaw : Type 0
 ReadLaw = (bs : List ℕ) → AllByRecursion (λ b. b < 2 ^ 8) bs → (j : Stated) → (read bs ≡ Ok j → States bs j) × (States bs j → read bs ≡ Ok j)
 
--- A file that is refused is refused for the reason that its fault names.
+-- A file is refused with a fault exactly when it meets the reason that the fault names.
 abbrev pub RefusedLaw : Type 0
-RefusedLaw = (bs : List ℕ) → AllByRecursion (λ b. b < 2 ^ 8) bs → (f : Fault) → read bs ≡ Err f → Refused bs f
+RefusedLaw = (bs : List ℕ) → AllByRecursion (λ b. b < 2 ^ 8) bs → (f : Fault) → (read bs ≡ Err f → Refused bs f) × (Refused bs f → read bs ≡ Err f)
 
 -- The catalogue of a job that can be stated keeps its bounds, and the job opens without a fault.
 abbrev pub OpensLaw : Type 0

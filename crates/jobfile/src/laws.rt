@@ -7,7 +7,7 @@ pub fn read_law()
     ensures { ReadLaw }
 {}
 
-// A file that is refused is refused for the reason that its fault names.
+// A file is refused with a fault exactly when it meets the reason that the fault names.
 pub fn refused_law()
     ensures { RefusedLaw }
 {}
