@@ -3,6 +3,8 @@ use Rattle.std.specs.Prelude.{◌≡◌, ℕ, List, take, IfOk, Ok, Err, Result}
 use Rattle.rules.specs.declared.refusals.Fault.{Fault}
 use Rattle.rules.specs.Catalogues.{Meaning, SameAnswers}
 use Rattle.rules.specs.Sheets.{last_row, order_of}
+use Rattle.catalogue.specs.declared.ladder.Ladder.{Ladder}
+use Rattle.catalogue.specs.declared.listed.Listing.{Listing}
 use Rattle.catalogue.specs.Beside.{besides}
 use Rattle.catalogue.specs.Ladder.{ladder_meaning}
 use Rattle.catalogue.specs.Listed.{listed_meaning}
@@ -33,10 +35,13 @@ abbrev pub says : List ℕ → Result Job Fault → Result Stated Fault
 says file (Ok j) = Ok (stated_by file j)
 says file (Err f) = Err f
 
--- The meaning of the catalogue of a job in memory: the listing over the bytes of its file, beside the ladder.
+-- The meaning of a listing over the bytes of a file, beside a ladder.
+abbrev pub catalogue_meaning : List ℕ → Listing → Ladder → Meaning
+catalogue_meaning file l d = besides (listed_meaning file l.rows l.places.items) (ladder_meaning d.rows d.places.items)
+
+-- The meaning of the catalogue of a job in memory.
 abbrev pub job_meaning : List ℕ → Job → Meaning
-job_meaning file j =
-    besides (listed_meaning file j.listing.rows j.listing.places.items) (ladder_meaning j.ladder.rows j.ladder.places.items)
+job_meaning file j = catalogue_meaning file j.listing j.ladder
 
 -- What is promised of reading a file.
 pub record RightlyRead (file : List ℕ) (answer : Result Job Fault) : Type 0 where
