@@ -1,4 +1,4 @@
-// Takes one job from start to finish by trying every choice, and prints what it did.
+// Takes one job that is built in through two limits on standby by trying every choice, and prints what it did.
 #![tactic(auto)]
 
 use anyhow::Context;
