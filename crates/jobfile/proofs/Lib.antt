@@ -19,6 +19,7 @@ pub mod Sections
 pub mod Fronts
 pub mod Moves
 pub mod Written
+pub mod Lengths
 pub mod ReadLaw
 pub mod RefusedFiles
 pub mod MetRefusals

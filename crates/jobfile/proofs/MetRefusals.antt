@@ -1,23 +1,21 @@
 -- A file that meets a refusal is read as that refusal. Assumes nothing.
-use Rattle.std.proofs.Common.{◌≡◌, ℕ, zero, suc, ◌+◌, ◌*◌, ◌/◌, ◌%◌, ◌<◌, ◌≤◌, true, false, eqb, leb, List, [], ◌∷◌, ◌++◌, length, get_or, take, drop, Some, None, Ok, Err, Option, Result, ◌≢◌, sym, refl, ap, ◌∙◌, subst, append_assoc, arith, length-append, length-drop, length-take, w32, SFits}
+use Rattle.std.proofs.Common.{◌≡◌, ℕ, zero, suc, ◌+◌, ◌*◌, ◌/◌, ◌%◌, ◌≤◌, true, false, eqb, leb, List, [], ◌∷◌, ◌++◌, length, get_or, take, drop, Some, None, Err, Option, Result, ◌≢◌, sym, refl, ap, ◌∙◌, subst, append_assoc, arith, length-append, length-drop, length-take, w32, SFits}
 use Rattle.std.specs.List.{AllByRecursion}
 use Rattle.std.proofs.lemmas.List.{drop_at}
 use Rattle.std.proofs.lemmas.Bool.{lt-leb, le-leb, eq-eqb, ne_eqb, cond-true, cond-false}
 use Rattle.rules.specs.declared.refusals.Fault.{Fault}
-use Rattle.rules.specs.declared.refusals.Refusal.TheVariants.{FileTooLong, FieldCut, TagNotAllowed, WrongLength, CountsDiffer}
 use Rattle.rules.specs.Openings.{first_fault}
-use Rattle.rules.specs.Refusals.{fault_in}
 use Rattle.rules.proofs.Bools.{clash}
 use Rattle.jobfile.specs.declared.fields.Field.{Field}
 use Rattle.jobfile.specs.declared.fields.Field.TheVariants as field
 use Rattle.jobfile.specs.declared.fields.Section.{Section}
 use Rattle.jobfile.specs.declared.fields.Section.TheVariants as section
 use Rattle.jobfile.specs.Bounds.{most_bytes}
-use Rattle.jobfile.specs.Stated.{Stated, nothing_stated}
-use Rattle.jobfile.specs.Writing.{Entry, sheet, row, order, version, ladder, call, field_of, tag_of, rung_numbers, singles, numbers, body, field_bytes, bytes_of, field_length, early_entries, entries}
+use Rattle.jobfile.specs.Stated.{Stated}
+use Rattle.jobfile.specs.Writing.{Entry, sheet, row, order, version, ladder, call, field_of, rung_numbers, singles, numbers, body, field_bytes, bytes_of, field_length}
 use Rattle.jobfile.specs.Contents.{content_tests}
-use Rattle.jobfile.specs.Reading.{Reading, fresh, Announced, next, announced, decode, with_entry, after_tests, and_then, FieldRead, read_rest, read_announced, read_field, read_fields, early, finish, read}
-use Rattle.jobfile.specs.Refusing.{Early, Late, Extent, nothing, to_rows, past_order, Front, so_far, MayFollow, row_missing, rows_there, FirstFailing, tag_in, length_in, Begins, FieldFails, head_cut, tag_wrong, length_wrong, body_cut, contents_wrong, Refused, too_long, at_field, no_order, places_missing}
+use Rattle.jobfile.specs.Reading.{Reading, fresh, announced, decode, with_entry, after_tests, and_then, FieldRead, read_rest, read_announced, read_field, read_fields, early, finish, read}
+use Rattle.jobfile.specs.Refusing.{Extent, nothing, to_rows, past_order, Front, so_far, MayFollow, row_missing, rows_there, FirstFailing, tag_in, length_in, Begins, FieldFails, head_cut, tag_wrong, length_wrong, body_cut, contents_wrong, Refused, too_long, at_field, no_order, places_missing}
 use Rattle.jobfile.specs.Theorems.{RefusedLaw}
 use Rattle.jobfile.proofs.Codec.{Bytes, bytes_take, length_fours, length_rung_numbers}
 use Rattle.jobfile.proofs.Decoding.{Shaped, Fits, decoded_body}
@@ -27,6 +25,7 @@ use Rattle.jobfile.proofs.Moves.{FrontOf, runs_front}
 use Rattle.jobfile.proofs.Sections.{extent, announces, not_announced}
 use Rattle.jobfile.proofs.Written.{last_section, early_runs, late_runs}
 use Rattle.jobfile.proofs.ReadLaw.{late_section}
+use Rattle.jobfile.proofs.Lengths.{size_early, size_late}
 use Rattle.jobfile.proofs.RefusedFiles.{read_refused}
 
 -- ---- lists of bytes
@@ -195,6 +194,12 @@ reached past_order j k =
       early = λ n. absurd (n refl);
     }
 
+-- no front of a job is too long
+short_front : (x : Extent) (j : Stated) → Front x j → length (bytes_of (so_far x j)) ≤ most_bytes
+short_front nothing j k = omega arith
+short_front to_rows j k = omega (arith, size_early j (omega (arith, k.row_count, k.counts.few_rows)))
+short_front past_order j k = omega (arith, size_late j k)
+
 pub refused_read : (bs : List ℕ) (f : Fault) → Bytes bs → Refused bs f → read bs ≡ Err f
 unfolding read
 refused_read bs f small (too_long h) = cond-false (leb (length bs) most_bytes) _ _ (lt-leb _ _ h)
@@ -205,13 +210,13 @@ refused_read bs f small (at_field x j rest front short fails) =
     ∙ ap (λ o. and_then o (λ s. finish s (length bs)))
     (fields_refused (length bs) rest f w.runs (field_some fails) (omega arith) n (omega arith)
     (field_refused n w.reading (runs_front w.runs refl).0 f rest (bytes_back (bytes_of (so_far x j)) rest small) (w.fails fails)))
-refused_read bs f small (no_order x j front before short) =
+refused_read bs f small (no_order x j front before) =
     let w = reached x j front in
-    cond-true (leb (length bs) most_bytes) _ _ (le-leb _ _ short)
+    cond-true (leb (length bs) most_bytes) _ _ (le-leb _ _ (short_front x j front))
     ∙ ap (λ o. and_then o (λ s. finish s (length bs))) (runs_read (length bs) w.runs (omega arith))
     ∙ cond-true (early w.reading.section) _ _ (w.early before)
-refused_read bs f small (places_missing j late missing short) =
-    cond-true (leb (length bs) most_bytes) _ _ (le-leb _ _ short)
+refused_read bs f small (places_missing j late missing) =
+    cond-true (leb (length bs) most_bytes) _ _ (le-leb _ _ (short_front past_order j late))
     ∙ ap (λ o. and_then o (λ s. finish s (length bs))) (runs_read (length bs) (late_runs j late) (omega arith))
     ∙ cond-false (early (last_section j)) _ _ (late_section j.ladders j.calls)
     ∙ cond-false (eqb (length j.listed + length j.ladders) j.places) _ _ (ne_eqb _ _ missing)

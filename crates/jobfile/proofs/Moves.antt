@@ -1,19 +1,18 @@
 -- One field more leads from the front of a job to the front of one. Assumes nothing.
-use Rattle.std.proofs.Common.{◌≡◌, ℕ, ◌<◌, Bool, true, false, cond, eqb, ltb, List, [], ◌∷◌, ◌++◌, length, None, ◌≢◌, sym, refl, ap, ◌∙◌, subst, append_assoc, append-nil, arith, length-append}
+use Rattle.std.proofs.Common.{◌≡◌, ℕ, ◌<◌, eqb, ltb, List, [], ◌∷◌, ◌++◌, length, ◌≢◌, sym, refl, ap, ◌∙◌, subst, append_assoc, append-nil, arith, length-append}
 use Rattle.std.specs.List.{AllByRecursion}
 use Rattle.std.proofs.ByRecursion.{All-append}
 use Rattle.std.proofs.lemmas.List.{map_push}
 use Rattle.std.proofs.lemmas.Bool.{and_parts, eqb-true, leb-true, ltb-true}
 use Rattle.rules.proofs.TestLists.{Passed, test_passed, all_contained}
 use Rattle.rules.proofs.KindNumbers.{kind_there}
-use Rattle.jobfile.specs.declared.fields.Field.{Field}
 use Rattle.jobfile.specs.declared.fields.Section.{Section}
 use Rattle.jobfile.specs.declared.fields.Section.TheVariants as section
 use Rattle.jobfile.specs.Stated.{Stated}
 use Rattle.jobfile.specs.Writing.{Entry, sheet, row, order, version, ladder, call, field_of, tag_of}
 use Rattle.jobfile.specs.Validity.{ValidRow}
 use Rattle.jobfile.specs.Contents.{content_tests}
-use Rattle.jobfile.specs.Reading.{Reading, Announced, next, announced, with_entry}
+use Rattle.jobfile.specs.Reading.{Reading, next, announced, with_entry}
 use Rattle.jobfile.proofs.Decoding.{Shaped, Fits}
 use Rattle.jobfile.proofs.FieldReads.{Takes}
 use Rattle.jobfile.proofs.FileRuns.{Runs, stop, go}

@@ -1,22 +1,21 @@
 -- A file is accepted as a job exactly when it states that job. Assumes nothing.
-use Rattle.std.proofs.Common.{◌≡◌, ℕ, ◌+◌, ◌≤◌, Bool, true, false, cond, eqb, leb, List, [], ◌∷◌, length, Ok, Err, Result, sym, refl, ap, ◌∙◌, subst, arith}
-use Rattle.std.proofs.lemmas.Bool.{leb-true, le-leb, eqb-true, eq-eqb, cond-true, cond-false}
+use Rattle.std.proofs.Common.{◌≡◌, ℕ, ◌+◌, Bool, true, false, cond, eqb, leb, List, [], ◌∷◌, length, Ok, Err, Result, sym, refl, ap, ◌∙◌, subst, arith}
+use Rattle.std.proofs.lemmas.Bool.{le-leb, eqb-true, eq-eqb, cond-true, cond-false}
 use Rattle.rules.specs.declared.refusals.Fault.{Fault}
-use Rattle.rules.proofs.Bools.{clash}
-use Rattle.jobfile.specs.declared.fields.Section.{Section}
 use Rattle.jobfile.specs.declared.fields.Section.TheVariants as section
 use Rattle.jobfile.specs.Bounds.{most_bytes}
 use Rattle.jobfile.specs.Stated.{Stated}
-use Rattle.jobfile.specs.Writing.{bytes_of, entries, encode}
+use Rattle.jobfile.specs.Writing.{bytes_of, encode}
 use Rattle.jobfile.specs.Validity.{Valid, States}
 use Rattle.jobfile.specs.Reading.{Reading, fresh, and_then, read_fields, early, finish, read}
-use Rattle.jobfile.specs.Theorems.{ReadLaw}
+use Rattle.jobfile.specs.Theorems.{LongestLaw, ReadLaw}
 use Rattle.jobfile.proofs.Codec.{Bytes}
 use Rattle.jobfile.proofs.FieldReads.{refused_ok, ok_same, passed_cond}
 use Rattle.jobfile.proofs.FileRuns.{runs_read, passed_then, read_runs}
 use Rattle.jobfile.specs.Refusing.{Late}
 use Rattle.jobfile.proofs.Sections.{late_front}
 use Rattle.jobfile.proofs.Moves.{runs_front}
+use Rattle.jobfile.proofs.Lengths.{size_late}
 use Rattle.jobfile.proofs.Written.{section_after, last_section, late_runs}
 
 -- ---- what is accepted is stated
@@ -25,8 +24,8 @@ passed_else : {X : Type 0} {x : X} (b : Bool) (f : Fault) (r : Result X Fault) �
 passed_else true f r e = absurd (refused_ok e)
 passed_else false f r e = (refl, e)
 
-complete : (j : Stated) → Late j → length j.listed + length j.ladders ≡ j.places → length (encode j) ≤ most_bytes → Valid j
-complete j h count short =
+complete : (j : Stated) → Late j → length j.listed + length j.ladders ≡ j.places → Valid j
+complete j h count =
     record {
       some_place = h.counts.some_place;
       few_places = h.counts.few_places;
@@ -40,7 +39,6 @@ complete j h count short =
       ladders = h.ladders;
       few_calls = h.few_calls;
       calls = h.calls;
-      short = short;
     }
 
 accepted : (bs : List ℕ) → Bytes bs → (j : Stated) → read bs ≡ Ok j → States bs j
@@ -56,8 +54,7 @@ accepted bs small j h =
     let f = runs_front r.runs refl in
     let l = late_front s.section s.job c.0 f.0 in
     let writing : bs ≡ encode s.job = r.written ∙ ap bytes_of (sym f.1 ∙ l.1) in
-    let short : length bs ≤ most_bytes = leb-true _ _ a.0 in
-    subst (States bs) same (complete s.job l.0 (eqb-true _ _ d.0) (omega (arith, ap length writing)), writing)
+    subst (States bs) same (complete s.job l.0 (eqb-true _ _ d.0), writing)
 
 -- ---- what is stated is accepted
 
@@ -80,10 +77,13 @@ valid_late j v =
       calls = v.calls;
     }
 
+pub longest_law : LongestLaw
+longest_law j v = size_late j (valid_late j v)
+
 stated : (j : Stated) → Valid j → read (encode j) ≡ Ok j
 unfolding read
 stated j v =
-    cond-true (leb (length (encode j)) most_bytes) _ _ (le-leb _ _ v.short)
+    cond-true (leb (length (encode j)) most_bytes) _ _ (le-leb _ _ (omega (arith, longest_law j v)))
     ∙ ap (λ o. and_then o (λ s. finish s (length (encode j)))) (runs_read (length (encode j)) (late_runs j (valid_late j v)) (omega arith))
     ∙ cond-false (early (last_section j)) _ _ (late_section j.ladders j.calls)
     ∙ cond-true (eqb (length j.listed + length j.ladders) j.places) _ _ (eq-eqb _ _ v.place_count)

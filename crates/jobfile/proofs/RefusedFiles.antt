@@ -10,7 +10,7 @@ use Rattle.rules.proofs.Bools.{split}
 use Rattle.jobfile.specs.Bounds.{most_bytes}
 use Rattle.jobfile.specs.Writing.{Entry, field_bytes, bytes_of, field_length}
 use Rattle.jobfile.specs.Contents.{content_tests}
-use Rattle.jobfile.specs.Reading.{Reading, fresh, Announced, next, announced, decode, after_tests, and_then, FieldRead, read_rest, read_announced, read_field, read_fields, early, finish, read}
+use Rattle.jobfile.specs.Reading.{Reading, fresh, Announced, announced, decode, after_tests, and_then, FieldRead, read_rest, read_announced, read_field, read_fields, early, finish, read}
 use Rattle.jobfile.specs.Refusing.{FirstFailing, Begins, FieldFails, head_cut, tag_wrong, length_wrong, body_cut, contents_wrong, Refused, too_long, at_field, no_order, places_missing}
 use Rattle.jobfile.proofs.TestLoops.{failed_tests}
 use Rattle.jobfile.proofs.Codec.{Bytes, bytes_drop}
@@ -101,14 +101,13 @@ fields_fail (suc most) s f bs front small l short at here h =
         subst (λ xs. Refused xs f) same
         (later t (drop r.size bs) m.0 (bytes_drop r.size bs small) (omega (arith, length-drop r.size bs, w.size)) (omega (arith, short, ap length same)) (at + r.size) moved k)
 
-end_fails : (s : Reading) (f : Fault) (file : List ℕ) → FrontOf s → length file ≤ most_bytes → file ≡ bytes_of (fields_of s) → finish s (length file) ≡ Err f → Refused file f
-end_fails s f file front short e h =
-    let within : length (bytes_of (fields_of s)) ≤ most_bytes = omega (arith, short, ap length e) in
+end_fails : (s : Reading) (f : Fault) (file : List ℕ) → FrontOf s → file ≡ bytes_of (fields_of s) → finish s (length file) ≡ Err f → Refused file f
+end_fails s f file front e h =
     subst (λ xs. Refused xs f) (sym e)
     (split (early s.section)
     (λ x.
     subst (Refused (bytes_of (fields_of s))) (ap (λ n. fault_in TagNotAllowed n 0 0 0) (sym (ap length e)) ∙ err_same (sym (cond-true (early s.section) _ _ x) ∙ h))
-    (no_order (extent s.section) s.job (front_in s.section s.job front) (early_extent s.section x) within))
+    (no_order (extent s.section) s.job (front_in s.section s.job front) (early_extent s.section x)))
     (λ x.
     let l = late_front s.section s.job x front in
     let h₁ = sym (cond-false (early s.section) _ _ x) ∙ h in
@@ -118,7 +117,7 @@ end_fails s f file front short e h =
     (λ y.
     subst (Refused (bytes_of (fields_of s))) (err_same (sym (cond-false (eqb found s.job.places) _ _ y) ∙ h₁))
     (subst (λ es. Refused (bytes_of es) (fault_in CountsDiffer 0 found 0 (suc s.job.last_row))) (sym l.1)
-    (places_missing s.job l.0 (eqb-false _ _ y) (subst (λ es. length (bytes_of es) ≤ most_bytes) l.1 within))))))
+    (places_missing s.job l.0 (eqb-false _ _ y))))))
 
 pub read_refused : (bs : List ℕ) → Bytes bs → (f : Fault) → read bs ≡ Err f → Refused bs f
 unfolding read
@@ -132,4 +131,4 @@ read_refused bs small f h =
     by short (Ok s) e k =
         let r = read_runs (length bs) 0 fresh s bs small (omega arith) e in
         let m = runs_front r.runs refl in
-        end_fails s f bs m.0 short (r.written ∙ ap bytes_of (sym m.1)) k
+        end_fails s f bs m.0 (r.written ∙ ap bytes_of (sym m.1)) k

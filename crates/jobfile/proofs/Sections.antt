@@ -1,5 +1,5 @@
 -- The sections of a file, and how far the front of a job goes in each. Assumes nothing.
-use Rattle.std.proofs.Common.{◌≡◌, ℕ, ◌<◌, Bool, true, false, cond, eqb, ltb, List, [], length, Some, None, Option, ◌≢◌, sym, refl, ap, ◌∙◌, subst}
+use Rattle.std.proofs.Common.{◌≡◌, ℕ, Bool, true, false, cond, eqb, ltb, [], length, Some, None, Option, ◌≢◌, sym, refl, ap, ◌∙◌}
 use Rattle.std.proofs.lemmas.Bool.{eqb-true, eq-eqb, ltb-true, lt-ltb, cond-true}
 use Rattle.rules.proofs.Bools.{clash}
 use Rattle.jobfile.specs.declared.fields.Field.{Field}

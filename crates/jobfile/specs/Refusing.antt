@@ -109,11 +109,11 @@ pub data FieldFails (x : Extent) (j : Stated) (bs : List ℕ) (at : ℕ) : Fault
 
 -- Why a file is refused with a fault.
 pub data Refused : List ℕ → Fault → Type 0 where
-  -- it is too long; in all other cases it isn't
+  -- it is too long
   too_long : {bs : List ℕ} → most_bytes < length bs → Refused bs (fault_in FileTooLong most_bytes 0 0 0)
-  -- up to a byte it is the writing of the front of a job, and the field that begins there fails a test
+  -- it isn't too long, up to a byte it is the writing of the front of a job, and the field that begins there fails a test
   at_field : {f : Fault} (x : Extent) (j : Stated) (bs : List ℕ) → Front x j → length (bytes_of (so_far x j) ++ bs) ≤ most_bytes → FieldFails x j bs (length (bytes_of (so_far x j))) f → Refused (bytes_of (so_far x j) ++ bs) f
   -- it is the writing of the front of a job, and ends before the order
-  no_order : (x : Extent) (j : Stated) → Front x j → x ≢ past_order → length (bytes_of (so_far x j)) ≤ most_bytes → Refused (bytes_of (so_far x j)) (fault_in TagNotAllowed (length (bytes_of (so_far x j))) 0 0 0)
+  no_order : (x : Extent) (j : Stated) → Front x j → x ≢ past_order → Refused (bytes_of (so_far x j)) (fault_in TagNotAllowed (length (bytes_of (so_far x j))) 0 0 0)
   -- it is the writing of a job in which places are missing
-  places_missing : (j : Stated) → Late j → (length j.listed + length j.ladders ≢ j.places) → length (bytes_of (entries j)) ≤ most_bytes → Refused (bytes_of (entries j)) (fault_in CountsDiffer 0 (length j.listed + length j.ladders) 0 (suc j.last_row))
+  places_missing : (j : Stated) → Late j → (length j.listed + length j.ladders ≢ j.places) → Refused (bytes_of (entries j)) (fault_in CountsDiffer 0 (length j.listed + length j.ladders) 0 (suc j.last_row))

@@ -1,10 +1,15 @@
 // What is proved of job files.
 ghost use Rattle.jobfile.specs.Examples.{FilesHold};
-ghost use Rattle.jobfile.specs.Theorems.{OpensLaw, ReadLaw, RefusedLaw};
+ghost use Rattle.jobfile.specs.Theorems.{LongestLaw, OpensLaw, ReadLaw, RefusedLaw};
 
 // A file is accepted as a job exactly when it states that job.
 pub fn read_law()
     ensures { ReadLaw }
+{}
+
+// No job has a longer writing than 22,876 bytes.
+pub fn longest_law()
+    ensures { LongestLaw }
 {}
 
 // A file is refused with a fault exactly when it meets the reason that the fault names.
