@@ -24,4 +24,4 @@ pub use lines::{ClosingLine, Line};
 pub use numbers::number_at;
 pub use records::{CallRecord, Request};
 pub use refusals::{Fault, Refusal};
-pub use sheets::{Row, Sheet};
+pub use sheets::{Row, Sheet, lists_each};

@@ -40,7 +40,7 @@ fn place_at(order: &[u8], index: usize) -> u8
 fn amount_in<C: Catalogue>(checked: &Checked<'_, C>, row: u8, place: u8, version: u8) -> i32
     ensures { result ≡ amount_in (C.Catalogue.meaning checked.now.catalogue.now) row place version }
 {
-    let amount = checked.catalogue().amount(row, place, version);
+    let amount = checked.catalogue.amount(row, place, version);
     amount.unwrap_or(0) as i32
 }
 
@@ -58,7 +58,7 @@ fn position_in<C: Catalogue>(checked: &Checked<'_, C>, place: u8) -> Position
     ensures { result ≡ position_in (C.Catalogue.meaning checked.now.catalogue.now) place }
 {
     Position {
-        count: checked.catalogue().versions(place).unwrap_or(0),
+        count: checked.catalogue.versions(place).unwrap_or(0),
         versions: array::from_fn(|index| amounts_in(checked, place, index as u8 + 1)),
     }
 }
@@ -67,7 +67,7 @@ fn position_in<C: Catalogue>(checked: &Checked<'_, C>, place: u8) -> Position
 fn positions_in<C: Catalogue>(checked: &Checked<'_, C>) -> [Position; MOST_PLACES]
     ensures { result ≡ positions_in (C.Catalogue.meaning checked.now.catalogue.now) checked.now.sheet.now }
 {
-    let sheet = checked.sheet();
+    let sheet = checked.sheet;
     let order = &sheet.order[..usize::from(sheet.places)];
     array::from_fn(|index| position_in(checked, place_at(order, index)))
 }
@@ -77,7 +77,7 @@ impl Grid {
     pub fn of<C: Catalogue>(checked: &Checked<'_, C>) -> Grid
         ensures { setting result ≡ setting_of (C.Catalogue.meaning checked.now.catalogue.now) checked.now.sheet.now }
     {
-        let sheet = checked.sheet();
+        let sheet = checked.sheet;
         Grid {
             places: usize::from(sheet.places),
             last_row: usize::from(sheet.last_row),

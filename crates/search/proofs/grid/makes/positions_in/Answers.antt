@@ -12,7 +12,7 @@ pub shared_ref_as_front-order : goal.shared_ref_as_front-order
 shared_ref_as_front-order g c =
     let k = c.args.checked.now in
     let f = none_faultless (g.C.Catalogue.meaning k.catalogue.now) k.sheet.now k.faultless in
-    rw c.from.ensures (rw c.sheet-sheet.ensures f.few_places)
+    rw c.from.ensures f.few_places
 
 pub returns : goal.returns
 unfolding positions_in
