@@ -66,6 +66,10 @@ pub(crate) fn lengths(rt: &HostRuntime) -> anyhow::Result<()> {
     let mut long = Draft::new(rt.alloc());
     long.head(1, 262)?;
     show(rt, "a sheet of 262 bytes", &long)?;
+    let mut row = Draft::new(rt.alloc());
+    row.sheet(1, 1, 0)?;
+    row.head(2, 4)?;
+    show(rt, "a row of 4 bytes", &row)?;
     let mut order = Draft::new(rt.alloc());
     order.sheet(2, 0, 0)?;
     order.order(&[1, 2, 3])?;

@@ -8,7 +8,8 @@ use Rattle.jobfile.specs.declared.job.Job.{Job}
 use Rattle.jobfile.specs.Stated.{Stated}
 use Rattle.jobfile.specs.CallTables.{calls_of}
 use Rattle.jobfile.specs.InMemory.{ladders_of, listed_of}
-use Rattle.jobfile.specs.Reading.{content_tests, decode, early}
+use Rattle.jobfile.specs.Contents.{content_tests}
+use Rattle.jobfile.specs.Reading.{decode, early}
 use Rattle.jobfile.specs.declared.reader.Reader.{Reader}
 use Rattle.jobfile.specs.Readers.{BodyRead, front_job, told}
 use Rattle.rules.proofs.TestLoops.{failed_tests, passed_tests}

@@ -5,8 +5,8 @@ use Rattle.jobfile.specs.declared.fields.Field.{Field}
 use Rattle.jobfile.specs.declared.fields.Field.TheVariants as field
 use Rattle.jobfile.specs.Stated.{Stated}
 use Rattle.rules.specs.Numbers.{number_at}
-use Rattle.jobfile.specs.Writing.{fours, rung_numbers, FieldEntry, sheet, row, order, version, ladder, call, field_of, singles, numbers, body}
-use Rattle.jobfile.specs.Reading.{numbers_in, rungs_in, field_length, decode}
+use Rattle.jobfile.specs.Writing.{fours, rung_numbers, FieldEntry, sheet, row, order, version, ladder, call, field_of, singles, numbers, body, field_length}
+use Rattle.jobfile.specs.Reading.{numbers_in, rungs_in, decode}
 use Rattle.jobfile.proofs.Codec.{Bytes, byte_at, bytes_drop, number_four, number_drop, fours_back, fours_there, length_fours, length_numbers, rungs_there, rungs_back, length_rungs, length_rung_numbers, number_fits, numbers_fit}
 
 -- an entry has as many numbers as the rows, and an order as many as the places

@@ -6,8 +6,9 @@ use Rattle.std.proofs.lemmas.Bool.{eqb-true, eq-eqb, leb-true, le-leb, cond-true
 use Rattle.rules.specs.declared.refusals.Fault.{Fault}
 use Rattle.rules.specs.Openings.{first_fault, after_tests}
 use Rattle.rules.proofs.TestLists.{Passed, all_passed, none_first}
-use Rattle.jobfile.specs.Writing.{FieldEntry, field_of, tag_of, body, field_bytes}
-use Rattle.jobfile.specs.Reading.{Reading, Announced, next, announced, FieldRead, field_length, decode, content_tests, with_entry, read_rest, read_announced, read_field}
+use Rattle.jobfile.specs.Writing.{FieldEntry, field_of, tag_of, body, field_bytes, field_length}
+use Rattle.jobfile.specs.Contents.{content_tests}
+use Rattle.jobfile.specs.Reading.{Reading, Announced, next, announced, FieldRead, decode, with_entry, read_rest, read_announced, read_field}
 use Rattle.rules.proofs.TestLoops.{passed_tests}
 use Rattle.jobfile.proofs.Announcing.{announced_as}
 use Rattle.jobfile.proofs.Codec.{Bytes, bytes_take}

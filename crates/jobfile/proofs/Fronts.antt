@@ -1,4 +1,4 @@
--- How far a file is read is the front of a valid job, and what is read is its writing. Assumes nothing.
+-- How far a file is read is the front of a job, and what is read is its writing. Assumes nothing.
 use Rattle.std.proofs.Common.{◌≡◌, ℕ, zero, suc, ◌+◌, ◌-◌, ◌<◌, ◌≤◌, true, false, List, [], ◌∷◌, ◌++◌, map, length, get_or, take, drop, ℤ, pos, nat_abs, is_some, Some, None, Option, sym, refl, ap, ◌∙◌, ap₂, inl, inr, append_assoc, append-nil, arith, length-append, length-take}
 use Rattle.std.specs.List.{AllByRecursion}
 use Rattle.std.proofs.ByRecursion.{All-append, All-take, All-from_get_or}
@@ -16,10 +16,11 @@ use Rattle.rules.proofs.TestLists.{Passed, test_passed, each_at}
 use Rattle.rules.proofs.Asked.{Fits as Asks, asked_fits}
 use Rattle.rules.specs.Openings.{amount_tests}
 use Rattle.jobfile.specs.Bounds.{most_calls}
-use Rattle.jobfile.specs.Stated.{LadderStated, PlaceStated, Stated}
+use Rattle.jobfile.specs.Stated.{LadderStated, PlaceStated, Stated, held, no_rung, rung_amount}
 use Rattle.jobfile.specs.Writing.{FieldEntry, order, version, ladder, call, version_entries, listed_entries, ladder_entries, early_entries, entries}
 use Rattle.jobfile.specs.Validity.{ValidVersion, ValidPlace, ValidLadder, ValidCall}
-use Rattle.jobfile.specs.Reading.{held, content_tests, with_entry, no_rung, rung_amount}
+use Rattle.jobfile.specs.Contents.{content_tests}
+use Rattle.jobfile.specs.Reading.{with_entry}
 use Rattle.jobfile.specs.Refusing.{Late}
 use Rattle.jobfile.proofs.Decoding.{Fits}
 use Rattle.rules.proofs.AmountTests.{amounts_within}

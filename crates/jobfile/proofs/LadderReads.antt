@@ -9,8 +9,9 @@ use Rattle.catalogue.specs.Ladder.{with_place}
 use Rattle.jobfile.specs.declared.fields.Field.TheVariants as field
 use Rattle.jobfile.specs.declared.job.Job.{Job}
 use Rattle.jobfile.specs.declared.reader.Reader.{Reader}
-use Rattle.jobfile.specs.Stated.{RungStated, LadderStated, Stated}
-use Rattle.jobfile.specs.Reading.{content_tests, decode, ladder_tests, numbers_in, rung_amount, rungs_in}
+use Rattle.jobfile.specs.Stated.{RungStated, LadderStated, Stated, rung_amount}
+use Rattle.jobfile.specs.Contents.{content_tests, ladder_tests}
+use Rattle.jobfile.specs.Reading.{decode, numbers_in, rungs_in}
 use Rattle.jobfile.specs.InMemory.{ladder_of_place, ladders_of, rungs_of}
 use Rattle.jobfile.specs.Readers.{front_job, with_body}
 use Rattle.jobfile.proofs.BodyReads.{after_passed, front_with}

@@ -13,11 +13,14 @@ pub mod FieldSteps
 pub mod FieldLoops
 pub mod WholeReads
 pub mod SameAnswers
+pub mod Sections
 pub mod Fronts
 pub mod Moves
 pub mod Written
+pub mod Lengths
 pub mod ReadLaw
 pub mod RefusedFiles
+pub mod MetRefusals
 pub mod RightlyRead
 pub mod OpensWell
 pub mod WorkedFiles

@@ -10,7 +10,9 @@ use Rattle.catalogue.specs.declared.listed.Listing.{Listing}
 use Rattle.catalogue.specs.Listed.{behind, listed_at, no_listed, versions_so_far}
 use Rattle.jobfile.specs.declared.fields.Field.TheVariants as field
 use Rattle.jobfile.specs.declared.reader.Reader.{Reader}
-use Rattle.jobfile.specs.Reading.{amount_in, content_tests, decode, held, numbers_in, version_tests}
+use Rattle.jobfile.specs.Stated.{held}
+use Rattle.jobfile.specs.Contents.{content_tests, version_tests}
+use Rattle.jobfile.specs.Reading.{amount_in, decode, numbers_in}
 use Rattle.jobfile.specs.Readers.{front_job}
 use Rattle.jobfile.specs.InMemory.{amounts_at, versions_of, listed_of}
 use Rattle.jobfile.proofs.Codec.{amount_at, length_numbers, number_drop, number_take}

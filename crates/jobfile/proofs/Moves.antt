@@ -1,37 +1,32 @@
--- One field more leads from the front of a valid job to the front of one. Assumes nothing.
-use Rattle.std.proofs.Common.{◌≡◌, ℕ, ◌<◌, Bool, true, false, cond, eqb, ltb, List, [], ◌∷◌, ◌++◌, length, None, sym, refl, ap, ◌∙◌, subst, append_assoc, append-nil, arith, length-append}
+-- One field more leads from the front of a job to the front of one. Assumes nothing.
+use Rattle.std.proofs.Common.{◌≡◌, ℕ, ◌<◌, eqb, ltb, List, [], ◌∷◌, ◌++◌, length, ◌≢◌, sym, refl, ap, ◌∙◌, subst, append_assoc, append-nil, arith, length-append}
 use Rattle.std.specs.List.{AllByRecursion}
 use Rattle.std.proofs.ByRecursion.{All-append}
 use Rattle.std.proofs.lemmas.List.{map_push}
 use Rattle.std.proofs.lemmas.Bool.{and_parts, eqb-true, leb-true, ltb-true}
 use Rattle.rules.proofs.TestLists.{Passed, test_passed, all_contained}
 use Rattle.rules.proofs.KindNumbers.{kind_there}
-use Rattle.jobfile.specs.declared.fields.Field.{Field}
 use Rattle.jobfile.specs.declared.fields.Section.{Section}
 use Rattle.jobfile.specs.declared.fields.Section.TheVariants as section
 use Rattle.jobfile.specs.Stated.{Stated}
 use Rattle.jobfile.specs.Writing.{FieldEntry, sheet, row, order, version, ladder, call, field_of, tag_of}
 use Rattle.jobfile.specs.Validity.{ValidRow}
-use Rattle.jobfile.specs.Reading.{Reading, Announced, next, announced, content_tests, with_entry}
+use Rattle.jobfile.specs.Contents.{content_tests}
+use Rattle.jobfile.specs.Reading.{Reading, next, announced, with_entry}
 use Rattle.jobfile.proofs.Decoding.{Shaped, Fits}
 use Rattle.jobfile.proofs.FieldReads.{Takes}
 use Rattle.jobfile.proofs.FileRuns.{Runs, stop, go}
-use Rattle.jobfile.specs.Refusing.{Front, so_far}
+use Rattle.jobfile.specs.Refusing.{so_far}
+use Rattle.jobfile.proofs.Sections.{extent, FrontIn, same_next, no_next, cond_next}
 use Rattle.jobfile.proofs.Fronts.{late_version, entries_version, late_ladder, entries_ladder, late_call, entries_call}
 
--- the job with one field more is the front of a valid job, and its fields are one more
+-- the job with one field more is the front of a job, and its fields are one more
 abbrev Moved : Section → Stated → FieldEntry → Section → Type 0
-Moved c j e d = Front d (with_entry j e) × (so_far d (with_entry j e) ≡ so_far c j ++ (e ∷ []))
+Moved c j e d = FrontIn d (with_entry j e) × (so_far (extent d) (with_entry j e) ≡ so_far (extent c) j ++ (e ∷ []))
 
-same_next : {f : Field} {a b : Section} → next f a ≡ next f b → a ≡ b
-same_next {f} {a} {b} e = let same : ◌≡◌ {A = Announced} (record { field = f; section = a }) (record { field = f; section = b }) = cc in ap (λ x. x.section) same
-
-no_next : {f : Field} {d : Section} {P : Type 0} → None ≡ next f d → P
-no_next e = absurd (cc)
-
-cond_next : (b : Bool) {f : Field} {a d : Section} → cond b (next f a) None ≡ next f d → (b ≡ true) × (a ≡ d)
-cond_next true e = (refl, same_next e)
-cond_next false e = no_next e
+-- a list with one more behind it isn't empty
+pushed : {X : Type 0} (xs : List X) (x : X) → xs ++ (x ∷ []) ≢ []
+pushed xs x e = absurd (omega (arith, length-append xs (x ∷ []), ap length e))
 
 module _ (j : Stated) (at : ℕ) where
   -- that may come, and is as it should be
@@ -39,9 +34,9 @@ module _ (j : Stated) (at : ℕ) where
   Good e = Shaped j e × Fits e × AllByRecursion Passed (content_tests j e at)
 
   abbrev Moves : Section → FieldEntry → Type 0
-  Moves c e = (d : Section) → announced j c (tag_of (field_of e)) ≡ next (field_of e) d → Good e → Front c j → Moved c j e d
+  Moves c e = (d : Section) → announced j c (tag_of (field_of e)) ≡ next (field_of e) d → Good e → FrontIn c j → Moved c j e d
 
-  to : (c : Section) (e : FieldEntry) (a : Section) → (Good e → Front c j → Moved c j e a) → (d : Section) → next (field_of e) a ≡ next (field_of e) d → Good e → Front c j → Moved c j e d
+  to : (c : Section) (e : FieldEntry) (a : Section) → (Good e → FrontIn c j → Moved c j e a) → (d : Section) → next (field_of e) a ≡ next (field_of e) d → Good e → FrontIn c j → Moved c j e d
   to c e a f d h g k = subst (Moved c j e) (same_next h) (f g k)
 
   moves : (c : Section) (e : FieldEntry) → Moves c e
@@ -102,34 +97,34 @@ module _ (j : Stated) (at : ℕ) where
   moves section.Versions (version q zs) =
       to section.Versions (version q zs) section.Versions (λ g k. ((late_version j q zs at k.0 k.1 k.2 g.0 g.2, k.1, k.2), entries_version j q zs at k.0 k.1 k.2 g.0 g.2))
   moves section.Versions (ladder q l) =
-      to section.Versions (ladder q l) section.Ladders (λ g k. ((late_ladder j q l at k.0 k.2 g.0 g.1 g.2, k.2), entries_ladder j q l at k.0 k.2 g.0 g.1 g.2))
+      to section.Versions (ladder q l) section.Ladders (λ g k. ((late_ladder j q l at k.0 k.2 g.0 g.1 g.2, pushed j.ladders l, k.2), entries_ladder j q l at k.0 k.2 g.0 g.1 g.2))
   moves section.Versions (call r) =
-      to section.Versions (call r) section.Calls (λ g k. (late_call j r at k.0 g.1 g.2, entries_call j r at k.0 g.1 g.2))
+      to section.Versions (call r) section.Calls (λ g k. ((late_call j r at k.0 g.1 g.2, pushed j.calls r), entries_call j r at k.0 g.1 g.2))
   moves section.Ladders (sheet n m cap) = λ d h. no_next h
   moves section.Ladders (row r) = λ d h. no_next h
   moves section.Ladders (order ps) = λ d h. no_next h
   moves section.Ladders (version q zs) = λ d h. no_next h
   moves section.Ladders (ladder q l) =
-      to section.Ladders (ladder q l) section.Ladders (λ g k. ((late_ladder j q l at k.0 k.1 g.0 g.1 g.2, k.1), entries_ladder j q l at k.0 k.1 g.0 g.1 g.2))
+      to section.Ladders (ladder q l) section.Ladders (λ g k. ((late_ladder j q l at k.0 k.2 g.0 g.1 g.2, pushed j.ladders l, k.2), entries_ladder j q l at k.0 k.2 g.0 g.1 g.2))
   moves section.Ladders (call r) =
-      to section.Ladders (call r) section.Calls (λ g k. (late_call j r at k.0 g.1 g.2, entries_call j r at k.0 g.1 g.2))
+      to section.Ladders (call r) section.Calls (λ g k. ((late_call j r at k.0 g.1 g.2, pushed j.calls r), entries_call j r at k.0 g.1 g.2))
   moves section.Calls (sheet n m cap) = λ d h. no_next h
   moves section.Calls (row r) = λ d h. no_next h
   moves section.Calls (order ps) = λ d h. no_next h
   moves section.Calls (version q zs) = λ d h. no_next h
   moves section.Calls (ladder q l) = λ d h. no_next h
-  moves section.Calls (call r) = to section.Calls (call r) section.Calls (λ g k. (late_call j r at k g.1 g.2, entries_call j r at k g.1 g.2))
+  moves section.Calls (call r) = to section.Calls (call r) section.Calls (λ g k. ((late_call j r at k.0 g.1 g.2, pushed j.calls r), entries_call j r at k.0 g.1 g.2))
 
--- a reading that is the front of a valid job, and its fields
+-- a reading that is the front of a job, and its fields
 abbrev pub FrontOf : Reading → Type 0
-FrontOf s = Front s.section s.job
+FrontOf s = FrontIn s.section s.job
 
 abbrev pub fields_of : Reading → List FieldEntry
-fields_of s = so_far s.section s.job
+fields_of s = so_far (extent s.section) s.job
 
 pub takes_front : {at : ℕ} (s : Reading) (e : FieldEntry) (t : Reading) → Takes at s e t → FrontOf s → FrontOf t × (fields_of t ≡ fields_of s ++ (e ∷ []))
 takes_front {at} s e t k f =
-    subst (λ x. Front t.section x × (so_far t.section x ≡ fields_of s ++ (e ∷ []))) (sym k.adds)
+    subst (λ x. FrontIn t.section x × (so_far (extent t.section) x ≡ fields_of s ++ (e ∷ []))) (sym k.adds)
     (moves s.job at s.section e t.section k.said (k.shaped, k.fits, k.passes) f)
 
 pub runs_front : {at : ℕ} {s t : Reading} {es : List FieldEntry} → Runs at s es t → FrontOf s → FrontOf t × (fields_of t ≡ fields_of s ++ es)

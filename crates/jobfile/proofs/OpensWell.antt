@@ -10,9 +10,8 @@ use Rattle.rules.specs.Catalogues.{SoundMeaning, rung}
 use Rattle.rules.specs.Sheets.{EachOnce, kind_of, limit_of, order_of, blank_row}
 use Rattle.rules.specs.Openings.{Faultless}
 use Rattle.rules.proofs.Bools.{split}
-use Rattle.jobfile.specs.Stated.{LadderStated, PlaceStated, Stated}
+use Rattle.jobfile.specs.Stated.{LadderStated, PlaceStated, Stated, held, no_rung}
 use Rattle.jobfile.specs.Validity.{ValidRow, ValidVersion, ValidPlace, ValidLadder, Valid}
-use Rattle.jobfile.specs.Reading.{held, no_rung}
 use Rattle.jobfile.specs.Opened.{stated_sheet, no_ladder, ladder_of, stated_meaning}
 use Rattle.jobfile.specs.Theorems.{OpensLaw}
 

@@ -12,7 +12,7 @@ use Rattle.jobfile.proofs.Codec.{Bytes}
 use Rattle.jobfile.proofs.LadderReads.{length_ladders}
 use Rattle.jobfile.proofs.Listings.{length_listed}
 use Rattle.jobfile.proofs.ReadLaw.{read_law}
-use Rattle.jobfile.proofs.RefusedFiles.{refused_law}
+use Rattle.jobfile.proofs.MetRefusals.{refused_law}
 use Rattle.jobfile.proofs.SameAnswers.{meaning_read}
 
 module _ (file : List ℕ) (small : Bytes file) where
@@ -23,10 +23,14 @@ module _ (file : List ℕ) (small : Bytes file) where
       let few : length j.listing.places.items + length j.ladder.places.items ≤ most_places = omega (arith, valid.place_count, valid.few_places, length_listed file j.listing, length_ladders j.ladder) in
       meaning_read file j rows few
 
+  refused_says : (answer : Result Job Fault) (f : Fault) → says file answer ≡ Err f → answer ≡ Err f
+  refused_says (Ok j) f e = absurd (cc)
+  refused_says (Err g) f e = let same : g ≡ f = cc in ap Err same
+
   pub rightly_read : (answer : Result Job Fault) → says file answer ≡ read file → IfOk answer SameRows → RightlyRead file answer
   rightly_read answer is rows =
       record {
         accepted = λ j. (λ e. (read_law file small j).0 (sym is ∙ e), λ h. is ∙ (read_law file small j).1 h);
-        refused = λ f e. refused_law file small f (sym is ∙ ap (says file) e);
+        refused = λ f. (λ e. (refused_law file small f).0 (sym is ∙ ap (says file) e), λ h. refused_says answer f (is ∙ (refused_law file small f).1 h));
         catalogue = catalogue_read answer is rows;
       }

@@ -11,9 +11,9 @@ use Rattle.rules.specs.Catalogues.{rung}
 use Rattle.rules.proofs.Filled.{each_filled}
 use Rattle.catalogue.specs.declared.rung.Rung.{Rung}
 use Rattle.catalogue.specs.Ladder.{no_rung as blank}
-use Rattle.jobfile.specs.Stated.{RungStated}
+use Rattle.jobfile.specs.Stated.{RungStated, no_rung, rung_amount}
 use Rattle.jobfile.specs.InMemory.{rungs_of}
-use Rattle.jobfile.specs.Reading.{no_rung, numbers_in, rungs_in, rung_amount}
+use Rattle.jobfile.specs.Reading.{numbers_in, rungs_in}
 use Rattle.jobfile.proofs.Codec.{number_drop}
 
 -- a rung as it is stated

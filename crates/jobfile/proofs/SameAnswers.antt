@@ -12,9 +12,8 @@ use Rattle.catalogue.specs.declared.rung.Rung.{Rung}
 use Rattle.catalogue.specs.Ladder.{no_place, no_rung, ladder_at, rung_at}
 use Rattle.catalogue.specs.Listed.{amount_start, behind, listed_at}
 use Rattle.jobfile.specs.declared.job.Job.{Job}
-use Rattle.jobfile.specs.Stated.{RungStated}
+use Rattle.jobfile.specs.Stated.{RungStated, held, rung_amount}
 use Rattle.jobfile.specs.Opened.{ladder_of, no_ladder, stated_meaning}
-use Rattle.jobfile.specs.Reading.{held, rung_amount}
 use Rattle.jobfile.specs.InMemory.{amounts_at, ladder_of_place, ladders_of, rungs_of}
 use Rattle.jobfile.specs.Sound.{SameRows}
 use Rattle.jobfile.specs.Jobs.{job_meaning, stated_by}

@@ -16,7 +16,8 @@ use Rattle.jobfile.specs.declared.job.Job.{Job}
 use Rattle.jobfile.specs.declared.reader.Reader.{Reader}
 use Rattle.jobfile.specs.Stated.{PlaceStated, Stated}
 use Rattle.jobfile.specs.Sound.{HoldsIn, ListingEnds, Sound}
-use Rattle.jobfile.specs.Reading.{amount_in, content_tests, decode, early, numbers_in, version_tests}
+use Rattle.jobfile.specs.Contents.{content_tests, version_tests}
+use Rattle.jobfile.specs.Reading.{amount_in, decode, early, numbers_in}
 use Rattle.jobfile.specs.InMemory.{amounts_at, versions_of, listed_of, with_version}
 use Rattle.jobfile.specs.Readers.{Due, front_job, with_body}
 use Rattle.rules.proofs.TestLoops.{passed_tests}

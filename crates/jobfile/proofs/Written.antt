@@ -1,4 +1,4 @@
--- The fields of a valid job may come one after the other. Assumes nothing.
+-- The fields of a job that keeps its bounds so far may come one after the other. Assumes nothing.
 use Rattle.std.proofs.Common.{◌≡◌, ℕ, suc, ◌+◌, ◌-◌, ◌^◌, ◌<◌, ◌≤◌, true, eqb, ltb, List, [], ◌∷◌, ◌++◌, map, length, get_or, take, ℤ, pos, nat_abs, is_some, sym, refl, ap, ◌∙◌, subst, ap₂, append_assoc, append-nil, arith, length-append, w32, SFits}
 use borrow.Author.Differences.{ints}
 use Rattle.std.specs.List.{AllByRecursion}
@@ -25,10 +25,11 @@ use Rattle.jobfile.specs.declared.fields.Field.TheVariants as field
 use Rattle.jobfile.specs.declared.fields.Section.{Section}
 use Rattle.jobfile.specs.declared.fields.Section.TheVariants as section
 use Rattle.jobfile.specs.Bounds.{most_calls}
-use Rattle.jobfile.specs.Stated.{LadderStated, PlaceStated, Stated}
-use Rattle.jobfile.specs.Writing.{sheet, row, order, version, ladder, call, field_bytes, bytes_of, version_entries, listed_entries, ladder_entries, entries}
-use Rattle.jobfile.specs.Validity.{ValidRow, ValidVersion, ValidPlace, ValidLadder, ValidCall, Valid}
-use Rattle.jobfile.specs.Reading.{Reading, fresh, next, announced, rung_amount, no_rung}
+use Rattle.jobfile.specs.Stated.{LadderStated, PlaceStated, Stated, rung_amount, no_rung}
+use Rattle.jobfile.specs.Writing.{sheet, row, order, version, ladder, call, field_bytes, bytes_of, version_entries, listed_entries, ladder_entries, early_entries, entries}
+use Rattle.jobfile.specs.Validity.{ValidRow, ValidVersion, ValidPlace, ValidLadder, ValidCall}
+use Rattle.jobfile.specs.Reading.{Reading, fresh, next, announced}
+use Rattle.jobfile.specs.Refusing.{CountsGood, Early, Late}
 use Rattle.rules.proofs.AmountTests.{within_amounts}
 use Rattle.jobfile.proofs.FieldReads.{Takes}
 use Rattle.jobfile.proofs.FileRuns.{Runs, stop, go, runs_join}
@@ -77,12 +78,12 @@ code_below (run b) = omega arith
 code_small : (r : Request) → ValidCall r → r.code < 2 ^ 8
 code_small r h = subst (λ q. q.code < 2 ^ 8) (sym h.asks.1) (code_below h.asks.0)
 
-module _ (j : Stated) (v : Valid j) where
+module _ (j : Stated) (g : CountsGood j) where
   -- the job with less in its lists
   abbrev part : List Row → List ℕ → List PlaceStated → List LadderStated → List Request → Stated
   part rs ps qs ls cs = record { places = j.places; last_row = j.last_row; cap = j.cap; rows = rs; order = ps; listed = qs; ladders = ls; calls = cs }
 
-  abbrev at_rows : List Row → Reading
+  abbrev pub at_rows : List Row → Reading
   at_rows rs = record { section = section.Rows; job = part rs [] [] [] [] }
 
   abbrev at_listed : List PlaceStated → Reading
@@ -99,10 +100,10 @@ module _ (j : Stated) (v : Valid j) where
       record {
         said = refl;
         shaped = tt;
-        fits = record { bytes = (omega (arith, v.few_places), (omega (arith, v.few_rows), tt)); long = (near_fits j.cap v.cap, tt) };
+        fits = record { bytes = (omega (arith, g.few_places), (omega (arith, g.few_rows), tt)); long = (near_fits j.cap g.cap, tt) };
         passes = (
-          passed_test _ (fault_in CountOutside at 0 0 0) (and_from _ _ (le-leb _ _ v.some_place) (and_from _ _ (le-leb _ _ v.few_places) (le-leb _ _ v.few_rows))),
-          (passed_test _ (fault_in LimitBeyond at 0 0 0) (le-leb _ _ v.cap), tt),
+          passed_test _ (fault_in CountOutside at 0 0 0) (and_from _ _ (le-leb _ _ g.some_place) (and_from _ _ (le-leb _ _ g.few_places) (le-leb _ _ g.few_rows))),
+          (passed_test _ (fault_in LimitBeyond at 0 0 0) (le-leb _ _ g.cap), tt),
         );
         adds = refl;
       }
@@ -120,25 +121,12 @@ module _ (j : Stated) (v : Valid j) where
         adds = refl;
       }
 
-  takes_order : (at : ℕ) → Takes at (at_rows j.rows) (order j.order) (at_listed [])
-  takes_order at =
-      record {
-        said = cond-true (eqb (length j.rows) j.last_row) _ _ (eq-eqb _ _ v.row_count);
-        shaped = v.order.0;
-        fits = record {
-          bytes = All-weaker (λ x. (1 ≤ x) × (x ≤ j.places)) (λ x. x < 2 ^ 8) (λ x p. omega (arith, p.1, v.few_places)) j.order (once_fine j.places j.order v.order).0;
-          long = tt;
-        };
-        passes = (passed_test _ (fault_in OrderNotOnce at 0 0 0) (contained_all j.places j.order v.order.1), tt);
-        adds = refl;
-      }
-
   takes_version : (at : ℕ) (qs : List PlaceStated) (q : ℕ) (zs : List ℤ) → 1 ≤ q → q ≤ j.places → length qs ≤ q → q ≤ suc (length qs) → length (get_or qs (q - 1) []) < most_versions → ValidVersion j.last_row zs → Takes at (at_listed qs) (version q zs) (at_listed (take (q - 1) qs ++ ((get_or qs (q - 1) [] ++ (zs ∷ [])) ∷ [])))
   takes_version at qs q zs a b c d room h =
       record {
         said = refl;
         shaped = h.each_row;
-        fits = record { bytes = (omega (arith, b, v.few_places), tt); long = All-weaker (λ z. nat_abs z ≤ greatest_amount) (SFits w32) amount_fits zs h.amounts };
+        fits = record { bytes = (omega (arith, b, g.few_places), tt); long = All-weaker (λ z. nat_abs z ≤ greatest_amount) (SFits w32) amount_fits zs h.amounts };
         passes = (
           passed_test _ (fault_in PlaceOutOfTurn at 0 0 0) (and_from _ _ (le-leb _ _ a) (and_from _ _ (le-leb _ _ b) (and_from _ _ (le-leb _ _ c) (le-leb _ _ d)))),
           (
@@ -155,7 +143,7 @@ module _ (j : Stated) (v : Valid j) where
       record {
         said = may.0 (part j.rows j.order j.listed ls []);
         shaped = h.each_row;
-        fits = record { bytes = (omega (arith, room, v.few_places), (omega (arith, h.few), tt)); long = h.fit };
+        fits = record { bytes = (omega (arith, room, g.few_places), (omega (arith, h.few), tt)); long = h.fit };
         passes = (
           passed_test _ (fault_in PlaceOutOfTurn at 0 0 0) (and_from _ _ (eq-eqb q q refl) (le-leb _ _ room)),
           (
@@ -249,24 +237,42 @@ module _ (j : Stated) (v : Valid j) where
       (subst (λ d. Runs then_at (at_calls section.Calls (cs ++ (r ∷ []))) (map call ds) (at_calls d ((cs ++ (r ∷ [])) ++ ds))) (after_same section.Calls ds)
       (runs_calls section.Calls (cs ++ (r ∷ [])) ds (λ k. refl) (omega (arith, grown)) h.1 then_at)))
 
-  -- the section in which the whole job is read
-  abbrev pub last_section : Section
-  last_section = section_after (section_after section.Versions section.Ladders j.ladders) section.Calls j.calls
+-- the section in which the whole job is read
+abbrev pub last_section : Stated → Section
+last_section j = section_after (section_after section.Versions section.Ladders j.ladders) section.Calls j.calls
 
-  may_after : (ms : List LadderStated) → MayCall (section_after section.Versions section.Ladders ms)
-  may_after [] = λ k. refl
-  may_after (m ∷ ms) = λ k. refl
+may_after : (ms : List LadderStated) → MayCall (section_after section.Versions section.Ladders ms)
+may_after [] = λ k. refl
+may_after (m ∷ ms) = λ k. refl
 
-  runs_all_ladders : (at : ℕ) → Runs at (at_ladders section.Versions []) (ladder_entries (suc (length j.listed)) j.ladders) (at_ladders (section_after section.Versions section.Ladders j.ladders) j.ladders)
+-- the job up to its rows
+pub early_runs : (j : Stated) (v : Early j) → Runs 0 fresh (early_entries j) (at_rows j v.counts j.rows)
+early_runs j v = go (takes_sheet j v.counts 0) (runs_rows j v.counts [] j.rows (omega (arith, v.row_count)) v.rows _)
+
+module _ (j : Stated) (v : Late j) where
+  takes_order : (at : ℕ) → Takes at (at_rows j v.counts j.rows) (order j.order) (at_listed j v.counts [])
+  takes_order at =
+      record {
+        said = cond-true (eqb (length j.rows) j.last_row) _ _ (eq-eqb _ _ v.row_count);
+        shaped = v.order.0;
+        fits = record {
+          bytes = All-weaker (λ x. (1 ≤ x) × (x ≤ j.places)) (λ x. x < 2 ^ 8) (λ x p. omega (arith, p.1, v.counts.few_places)) j.order (once_fine j.places j.order v.order).0;
+          long = tt;
+        };
+        passes = (passed_test _ (fault_in OrderNotOnce at 0 0 0) (contained_all j.places j.order v.order.1), tt);
+        adds = refl;
+      }
+
+  runs_all_ladders : (at : ℕ) → Runs at (at_ladders j v.counts section.Versions []) (ladder_entries (suc (length j.listed)) j.ladders) (at_ladders j v.counts (section_after section.Versions section.Ladders j.ladders) j.ladders)
   runs_all_ladders at =
       let count : suc (length j.listed + 0) ≡ suc (length j.listed) = omega arith in
-      subst (λ k. Runs at (at_ladders section.Versions []) (ladder_entries k j.ladders) (at_ladders (section_after section.Versions section.Ladders j.ladders) j.ladders)) count
-      (runs_ladders section.Versions [] j.ladders ((λ k. refl), λ k. refl) (omega (arith, v.place_count)) v.ladders at)
+      subst (λ k. Runs at (at_ladders j v.counts section.Versions []) (ladder_entries k j.ladders) (at_ladders j v.counts (section_after section.Versions section.Ladders j.ladders) j.ladders)) count
+      (runs_ladders j v.counts section.Versions [] j.ladders ((λ k. refl), λ k. refl) (omega (arith, v.place_count)) v.ladders at)
 
-  pub written_runs : Runs 0 fresh (entries j) (record { section = last_section; job = j })
-  written_runs =
-      runs_join (go (takes_sheet 0) (runs_rows [] j.rows (omega (arith, v.row_count)) v.rows _))
+  pub late_runs : Runs 0 fresh (entries j) (record { section = last_section j; job = j })
+  late_runs =
+      runs_join (early_runs j (record { counts = v.counts; row_count = omega (arith, v.row_count); rows = v.rows }))
       (go (takes_order _)
-      (runs_join (runs_listed [] j.listed (omega (arith, v.place_count)) v.listed _)
+      (runs_join (runs_listed j v.counts [] j.listed (omega (arith, v.place_count)) v.listed _)
       (runs_join (runs_all_ladders _)
-      (runs_calls (section_after section.Versions section.Ladders j.ladders) [] j.calls (may_after j.ladders) (omega (arith, v.few_calls)) v.calls _))))
+      (runs_calls j v.counts (section_after section.Versions section.Ladders j.ladders) [] j.calls (may_after j.ladders) (omega (arith, v.few_calls)) v.calls _))))

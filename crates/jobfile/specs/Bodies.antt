@@ -2,7 +2,7 @@
 use Rattle.std.specs.Prelude.{ℕ, suc, ℤ}
 use Rattle.jobfile.specs.declared.bodies.LadderBody.{LadderBody}
 use Rattle.jobfile.specs.InMemory.{rungs_of}
-use Rattle.jobfile.specs.Reading.{rung_amount}
+use Rattle.jobfile.specs.Stated.{rung_amount}
 
 -- The amount of a row in a version.
 abbrev pub amount_of : LadderBody → ℕ → ℕ → ℤ

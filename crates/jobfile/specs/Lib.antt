@@ -2,6 +2,7 @@ pub mod Bounds
 pub mod Stated
 pub mod Writing
 pub mod Validity
+pub mod Contents
 pub mod Reading
 pub mod Amounts
 pub mod CallTables

@@ -2,8 +2,7 @@
 use Rattle.std.specs.Prelude.{ℕ, suc, ◌+◌, ◌-◌, if◌then◌else◌, [], length, pos, nat_le, slice_index_or}
 use Rattle.rules.specs.declared.sheets.Sheet.{Sheet}
 use Rattle.rules.specs.Catalogues.{Meaning}
-use Rattle.jobfile.specs.Stated.{LadderStated, Stated}
-use Rattle.jobfile.specs.Reading.{held, rung_amount}
+use Rattle.jobfile.specs.Stated.{LadderStated, Stated, held, rung_amount}
 
 -- The sheet of a stated job.
 abbrev pub stated_sheet : Stated → Sheet

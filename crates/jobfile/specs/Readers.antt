@@ -11,7 +11,9 @@ use Rattle.jobfile.specs.Stated.{Stated}
 use Rattle.jobfile.specs.CallTables.{calls_of}
 use Rattle.jobfile.specs.Begun.{BeforeOrder}
 use Rattle.jobfile.specs.InMemory.{listed_of, ladders_of}
-use Rattle.jobfile.specs.Reading.{Reading, FieldRead, decode, content_tests, early, field_length, with_entry}
+use Rattle.jobfile.specs.Writing.{field_length}
+use Rattle.jobfile.specs.Contents.{content_tests}
+use Rattle.jobfile.specs.Reading.{Reading, FieldRead, decode, early, with_entry}
 
 -- The front of a job as far as a reader has it; between the head of the order field and its body the order is whatever the sheet has.
 abbrev pub front_job : Reader → Stated

@@ -11,7 +11,7 @@ use Rattle.rules.specs.Catalogues.{rung}
 use Rattle.rules.specs.Sheets.{EachOnce}
 use Rattle.rules.specs.Calls.{Call}
 use Rattle.rules.specs.Records.{request_of}
-use Rattle.jobfile.specs.Bounds.{most_bytes, most_calls}
+use Rattle.jobfile.specs.Bounds.{most_calls}
 use Rattle.jobfile.specs.Stated.{LadderStated, PlaceStated, Stated}
 use Rattle.jobfile.specs.Writing.{rung_numbers, encode}
 
@@ -45,7 +45,7 @@ pub record ValidCall (r : Request) : Type 0 where
   pub row : r.row < 2 ^ 8
   pub number : FitsSigned w32 r.number
 
--- A job that can be stated: its counts, cap, rows, order, places and calls keep the bounds, and its writing isn't too long.
+-- A job that can be stated: its counts, cap, rows, order, places and calls keep the bounds.
 pub record Valid (j : Stated) : Type 0 where
   pub some_place : 1 ≤ j.places
   pub few_places : j.places ≤ most_places
@@ -59,7 +59,6 @@ pub record Valid (j : Stated) : Type 0 where
   pub ladders : AllByRecursion (ValidLadder j.last_row) j.ladders
   pub few_calls : length j.calls ≤ most_calls
   pub calls : AllByRecursion ValidCall j.calls
-  pub short : length (encode j) ≤ most_bytes
 
 -- A file states a job: the job is valid, and the file is its writing.
 abbrev pub States : List ℕ → Stated → Type 0

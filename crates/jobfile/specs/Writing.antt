@@ -1,5 +1,5 @@
 -- How a job is written: field by field, by rising tag. Assumes nothing.
-use Rattle.std.specs.Prelude.{ℕ, suc, ◌/◌, ◌%◌, List, [], ◌∷◌, ◌++◌, map, length, ℤ}
+use Rattle.std.specs.Prelude.{ℕ, suc, ◌+◌, ◌*◌, ◌/◌, ◌%◌, List, [], ◌∷◌, ◌++◌, map, length, ℤ}
 use Rattle.std.specs.Int.{w32, cast_unsigned}
 use Rattle.rules.specs.declared.records.Request.{Request}
 use Rattle.rules.specs.declared.sheets.Row.{Row}
@@ -69,6 +69,15 @@ numbers (call r) = r.number ∷ []
 -- The body of the field that says it.
 abbrev pub body : FieldEntry → List ℕ
 body e = singles e ++ fours (numbers e)
+
+-- The length of a field's body.
+abbrev pub field_length : Stated → Field → ℕ
+field_length j field.Sheet = 6
+field_length j field.Row = 5
+field_length j field.Order = j.places
+field_length j field.Version = 5 + 4 * j.last_row
+field_length j field.Ladder = 10 + 8 * j.last_row
+field_length j field.Call = 6
 
 -- A field: its tag, the length of its body in two bytes, and its body.
 abbrev pub field_bytes : FieldEntry → List ℕ

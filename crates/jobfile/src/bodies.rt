@@ -3,7 +3,8 @@ ghost use Rattle.std.specs.Prelude.{◌≡◌, ℕ, suc, ◌*◌, ◌≤◌, len
 ghost use Rattle.rules.specs.Bounds.{greatest_row};
 ghost use Rattle.rules.specs.Openings.{each_to, checked, amount_tests};
 ghost use Rattle.jobfile.specs.InMemory.{rungs_of};
-ghost use Rattle.jobfile.specs.Reading.{amount_fault, ladder_tests, numbers_in, rungs_in};
+ghost use Rattle.jobfile.specs.Contents.{amount_fault, ladder_tests};
+ghost use Rattle.jobfile.specs.Reading.{numbers_in, rungs_in};
 
 use crate::checks::{Spot, check_amounts, fault_at};
 use catalogue::Rung;

@@ -4,7 +4,8 @@ ghost use Rattle.rules.specs.Bounds.{greatest_row};
 ghost use Rattle.rules.specs.Openings.{checked, amount_tests};
 ghost use Rattle.rules.specs.Refusals.{fault_in};
 ghost use Rattle.rules.specs.Records.{asked};
-ghost use Rattle.jobfile.specs.Reading.{amount_fault, amount_in, sheet_tests, row_tests, order_tests, version_tests, call_tests};
+ghost use Rattle.jobfile.specs.Contents.{amount_fault, sheet_tests, row_tests, order_tests, version_tests, call_tests};
+ghost use Rattle.jobfile.specs.Reading.{amount_in};
 ghost use Rattle.jobfile.specs.Amounts.{Gives};
 
 use crate::bounds::MOST_CALLS;

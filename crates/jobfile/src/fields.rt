@@ -2,7 +2,7 @@
 
 // What a field holds.
 #[derive(Clone, Copy, Debug, PartialEq, Eq)]
-pub enum Field {
+pub(crate) enum Field {
     Sheet,
     Row,
     Order,
@@ -13,7 +13,7 @@ pub enum Field {
 
 // How far a file has been read: which fields may come next.
 #[derive(Clone, Copy, Debug, PartialEq, Eq)]
-pub enum Section {
+pub(crate) enum Section {
     // Nothing yet: the sheet comes.
     Start,
     // The sheet, and perhaps rows: rows or the order come.

@@ -13,3 +13,4 @@ pub struct Job {
 }
 
 mod begun;
+mod catalogues;

@@ -1,13 +1,18 @@
 // What is proved of job files.
 ghost use Rattle.jobfile.specs.Examples.{FilesHold};
-ghost use Rattle.jobfile.specs.Theorems.{OpensLaw, ReadLaw, RefusedLaw};
+ghost use Rattle.jobfile.specs.Theorems.{LongestLaw, OpensLaw, ReadLaw, RefusedLaw};
 
 // A file is accepted as a job exactly when it states that job.
 pub fn read_law()
     ensures { ReadLaw }
 {}
 
-// A file that is refused is refused for the reason that its fault names.
+// No job has a longer writing than 22,876 bytes.
+pub fn longest_law()
+    ensures { LongestLaw }
+{}
+
+// A file is refused with a fault exactly when it meets the reason that the fault names.
 pub fn refused_law()
     ensures { RefusedLaw }
 {}

@@ -13,7 +13,6 @@ mod reader;
 
 pub use bounds::{MOST_BYTES, MOST_CALLS};
 pub use calls::Calls;
-pub use fields::{Field, Section};
 pub use files::read;
 pub use job::Job;
-pub use laws::{opens_law, read_law, refused_law, worked_files};
+pub use laws::{longest_law, opens_law, read_law, refused_law, worked_files};

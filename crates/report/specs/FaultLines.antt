@@ -3,6 +3,7 @@ use Rattle.std.specs.Prelude.{◌≡◌, ℕ, ◌<◌, ◌≤◌, List, ◌++◌
 use Rattle.rules.specs.declared.refusals.Fault.{Fault}
 use Rattle.rules.specs.declared.refusals.Refusal.{Refusal}
 use Rattle.rules.specs.declared.refusals.Refusal.TheVariants.{BufferTooShort}
+use Rattle.rules.specs.Refusals.{refusal_number, refusal_layer}
 
 -- A fault is written into a buffer of at least so many bytes, and its line is never longer.
 abbrev pub fault_buffer : ℕ
@@ -26,10 +27,12 @@ pub record Written (f : Fault) (before : List ℕ) (n : ℕ) (after : List ℕ) 
   pub ends : n ≡ length (fault_line f)
   pub holds : after ≡ fault_line f ++ drop n before
 
--- The buffer has fewer bytes than are wanted, and is as before.
+-- The buffer has fewer bytes than are wanted, which is refusal 17 of layer 4, and is as before.
 pub record TooShort (before : List ℕ) (e : Refusal) (after : List ℕ) : Type 0 where
   pub short : length before < fault_buffer
   pub refusal : e ≡ BufferTooShort
+  pub number : refusal_number e ≡ 17
+  pub layer : refusal_layer e ≡ 4
   pub unchanged : after ≡ before
 
 -- The line of a fault was written, or else the buffer was too short.

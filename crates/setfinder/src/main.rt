@@ -1,99 +1,60 @@
-// Takes one job from start to finish by trying every choice, and prints what it did.
+// Reads a job file from standard input and prints what it states and, of all choices, the cheapest that keeps the
+// sheet's limits; or the line of the file's fault, and ends with status 1.
 #![tactic(auto)]
 
-use anyhow::Context;
-use catalogue::{Beside, Catalogue, Ladder, Rung};
 use exhaustive::cheapest;
-use rules::{GREATEST_ROW, Kind, MOST_PLACES, MOST_ROWS, Refusal, Row, Sheet};
-use shown::{AnswerText, CatalogueText};
+use jobfile::{Job, MOST_BYTES};
+use report::{FAULT_BUFFER, write_fault};
+use rules::Fault;
+use shown::{AnswerText, CallsText, CatalogueText, SheetText};
 use std::io;
+use std::io::{Read, Write};
+use std::process::ExitCode;
 
-// The job has the rows price and standby, and a phone and a battery of two versions each.
-const ROWS: u8 = 2;
-
-const VERSIONS: u8 = 2;
-
-// The versions (90, -20) and (60, -50).
-const PHONE_PRICE: Rung = Rung {
-    base: 90,
-    step: -30,
-};
-
-const PHONE_STANDBY: Rung = Rung {
-    base: -20,
-    step: -30,
-};
-
-// The versions (75, 180) and (40, 100).
-const BATTERY_PRICE: Rung = Rung {
-    base: 75,
-    step: -35,
-};
-
-const BATTERY_STANDBY: Rung = Rung {
-    base: 180,
-    step: -80,
-};
-
-const CAP: i32 = 1000;
-
-// The least standby that is asked for, and a later one.
-const STANDBY: i32 = 60;
-
-const LATER_STANDBY: i32 = 50;
-
-// A catalogue of one place.
-fn one_place(price: Rung, standby: Rung) -> Result<Ladder, Refusal> {
-    let mut ladder = Ladder::new(ROWS)?;
-    let mut rungs = [Rung::default(); MOST_ROWS];
-    rungs[0] = price;
-    rungs[1] = standby;
-    ladder.add(VERSIONS, rungs)?;
-    Ok(ladder)
-}
-
-// A sheet for two places that asks for at least so much standby.
-fn sheet(standby: i32) -> Sheet {
-    let mut rows = [Row::default(); GREATEST_ROW];
-    rows[0] = Row {
-        kind: Kind::SumAtLeast.number(),
-        limit: standby,
-    };
-    let mut order = [0; MOST_PLACES];
-    order[0] = 1;
-    order[1] = 2;
-    Sheet {
-        places: 2,
-        last_row: 1,
-        cap: CAP,
-        rows,
-        order,
-    }
-}
-
-// The limits of a sheet, and the cheapest choice that keeps them.
-fn print_answer<C: Catalogue>(rt: &impl Print, sheet: &Sheet, catalogue: &C) -> io::Result<()> {
-    let cap = sheet.cap;
-    let standby = sheet.rows[0].limit;
-    println!(rt; "LIMITS {cap} {standby}")?;
+// What a job states, and the cheapest choice that keeps its limits; the calls are not carried out yet.
+fn print_job(rt: &impl Print, file: &[u8], job: Job) -> io::Result<()> {
+    let Job {
+        sheet,
+        calls,
+        listing,
+        ladder,
+    } = job;
+    let catalogue = Job::catalogue(file, listing, ladder);
+    print!(rt; "{}", SheetText(&sheet))?;
+    print!(rt; "{}", CatalogueText(&catalogue))?;
+    print!(rt; "{}", CallsText(calls.list()))?;
     let places = sheet.places;
-    let answer = cheapest(sheet, catalogue);
+    let answer = cheapest(&sheet, &catalogue);
     println!(rt; "{}", AnswerText { places, answer })
 }
 
-// The job, and its answers at the two limits on standby.
-fn run(rt: &impl Print) -> anyhow::Result<()> {
-    let phone = one_place(PHONE_PRICE, PHONE_STANDBY).context("no catalogue of the phone")?;
-    let battery = one_place(BATTERY_PRICE, BATTERY_STANDBY).context("no catalogue of the battery")?;
-    let catalogue = Beside::new(phone, battery);
-    println!(rt; "JOB 2 1")?;
-    print!(rt; "{}", CatalogueText(&catalogue))?;
-    for standby in [STANDBY, LATER_STANDBY] {
-        print_answer(rt, &sheet(standby), &catalogue)?;
-    }
+// The line of a fault.
+fn print_fault(rt: &HostRuntime, fault: &Fault) -> anyhow::Result<()> {
+    let mut line = [0; FAULT_BUFFER];
+    let length = write_fault(fault, &mut line)?;
+    rt.stdout().write_all(&line[..length])?;
     Ok(())
 }
 
-fn main(rt: HostRuntime) -> anyhow::Result<()> {
+// The file on standard input: what it states and its answer, or its fault. A byte more than a file may have is enough to
+// tell that it is too long.
+fn run(rt: &HostRuntime) -> anyhow::Result<ExitCode> {
+    let mut file = Vec::new(rt.alloc());
+    rt.stdin()
+        .take(MOST_BYTES as u64 + 1)
+        .read_to_end(&mut file)?;
+    match jobfile::read(file.as_slice()) {
+        Ok(job) => {
+            print_job(rt, file.as_slice(), job)?;
+            Ok(ExitCode::SUCCESS)
+        }
+        Err(fault) => {
+            print_fault(rt, &fault)?;
+            Ok(ExitCode::FAILURE)
+        }
+    }
+}
+
+fn main(rt: HostRuntime) -> anyhow::Result<ExitCode> {
     run(&rt)
 }

@@ -2,7 +2,8 @@
 ghost use Rattle.std.specs.Prelude.{◌≡◌, IfOk, MatchResult, Some, None};
 ghost use Rattle.rules.specs.Refusals.{fault_in};
 ghost use Rattle.rules.specs.declared.refusals.Refusal.TheVariants.{TagNotAllowed};
-ghost use Rattle.jobfile.specs.Reading.{announced_with, field_length};
+ghost use Rattle.jobfile.specs.Writing.{field_length};
+ghost use Rattle.jobfile.specs.Reading.{announced_with};
 
 use crate::checks::fault_at;
 use crate::fields::{Field, Section};

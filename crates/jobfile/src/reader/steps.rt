@@ -26,17 +26,17 @@ impl Reader<'_> {
     }
 
     // The rest of a field that comes next, once its length is known.
-    fn read_rest(&mut self, field: Field, size: u16, tail: &[u8]) -> Result<(), Fault>
+    fn read_rest(&mut self, field: Field, size: u16, rest: &[u8]) -> Result<(), Fault>
         requires turn { InTurn self.old field }
-        requires tail { tail.now ≡ drop (self.old.at + 3) self.old.file.now }
+        requires rest { rest.now ≡ drop (self.old.at + 3) self.old.file.now }
         requires there { self.old.at + 3 ≤ length self.old.file.now }
-        ensures field { told result (field_between self.old self.new) ≡ read_rest (front_job self.old) (record { field = field; section = self.old.section }) size tail.now self.old.at }
+        ensures field { told result (field_between self.old self.new) ≡ read_rest (front_job self.old) (record { field = field; section = self.old.section }) size rest.now self.old.at }
         ensures moved { OnOk result (MovedOn self.old.file.now self.old.at self.new) }
     {
         if size != self.length_of(field) {
             return Err(fault_at(Refusal::WrongLength, self.at));
         }
-        let Some(body) = tail.get(..usize::from(size)) else {
+        let Some(body) = rest.get(..usize::from(size)) else {
             return Err(fault_at(Refusal::FieldCut, self.at));
         };
         self.read_body(field, body)
@@ -48,10 +48,10 @@ impl Reader<'_> {
         ensures moved { OnOk result (MovedOn self.old.file.now self.old.at self.new) }
     {
         let file = self.file;
-        let [tag, hi, lo, tail @ ..] = &file[usize::from(self.at)..] else {
+        let [tag, hi, lo, rest @ ..] = &file[usize::from(self.at)..] else {
             return Err(fault_at(Refusal::FieldCut, self.at));
         };
         let field = self.advance(*tag)?;
-        self.read_rest(field, u16::from_be_bytes([*hi, *lo]), tail)
+        self.read_rest(field, u16::from_be_bytes([*hi, *lo]), rest)
     }
 }

@@ -1,4 +1,4 @@
-use Rattle.jobfile.proofs.RefusedFiles.{refused_law}
+use Rattle.jobfile.proofs.MetRefusals.{refused_law}
 use Rattle.jobfile.proofs.laws.refused_law.Goals as goal
 
 pub returns : goal.returns

@@ -5,7 +5,7 @@ use Rattle.rules.specs.Openings.{each_to, first_fault, amount_tests}
 use Rattle.rules.proofs.TestLoops.{each_passed, each_stops, each_done}
 use Rattle.jobfile.specs.declared.bodies.LadderBody.{LadderBody}
 use Rattle.jobfile.specs.Bodies.{amount_of}
-use Rattle.jobfile.specs.Reading.{amount_fault}
+use Rattle.jobfile.specs.Contents.{amount_fault}
 use Rattle.jobfile.proofs.bodies.LadderBody.check_versions.Goals as goal
 
 tests : LadderBody → ℕ → ℕ → List (Option Fault)

@@ -1,7 +1,7 @@
 use Rattle.std.proofs.Common.{suc, ◌≡◌, ◌-◌, None}
 use Rattle.rules.specs.Openings.{each_to, first_fault, amount_tests}
 use Rattle.jobfile.specs.Bodies.{amount_of}
-use Rattle.jobfile.specs.Reading.{amount_fault}
+use Rattle.jobfile.specs.Contents.{amount_fault}
 use Rattle.jobfile.proofs.bodies.LadderBody.check_versions.Given as goal
 
 abbrev pub invariant-loop-version : goal.invariant-loop-version
