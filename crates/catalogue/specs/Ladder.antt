@@ -18,12 +18,12 @@ abbrev pub no_place : LadderPlace
 no_place = record { count = 0; rungs = [] }
 
 -- The place of a number, from 1 up.
-abbrev pub place_at : List LadderPlace → ℕ → LadderPlace
-place_at places q = slice_index_or places (q - 1) no_place
+abbrev pub ladder_at : List LadderPlace → ℕ → LadderPlace
+ladder_at places q = slice_index_or places (q - 1) no_place
 
 -- The rung of a row at a place.
 abbrev pub rung_at : List LadderPlace → ℕ → ℕ → Rung
-rung_at places row q = slice_index_or (place_at places q).rungs row no_rung
+rung_at places row q = slice_index_or (ladder_at places q).rungs row no_rung
 
 -- A ladder with so many places can have one more with so many versions.
 abbrev pub has_room : ℕ → ℕ → Bool
@@ -43,6 +43,6 @@ abbrev pub ladder_meaning : ℕ → List LadderPlace → Meaning
 ladder_meaning rows places = record {
   places = length places;
   rows = rows;
-  versions = λ q. (place_at places q).count;
+  versions = λ q. (ladder_at places q).count;
   amount = λ row q v. rung (rung_at places row q).base (rung_at places row q).step v;
 }

@@ -23,6 +23,7 @@ module _ (a b : Meaning) (s : SoundMeaning a) (t : SoundMeaning b) where
       (λ e. f q from (leb-true q a.places e))
       (λ e. let past = leb-false q a.places e in g (q - a.places) (omega arith) (omega arith))
 
+  -- An amount of two catalogues side by side lies within reach.
   besides_near : (row q v : ℕ) → row < (besides a b).rows → 1 ≤ q → q ≤ (besides a b).places → 1 ≤ v → v ≤ (besides a b).versions q → unsigned_abs ((besides a b).amount row q v) ≤ amount_reach
   besides_near row q v in_row from to first last =
       ⊎_elim
@@ -34,6 +35,7 @@ module _ (a b : Meaning) (s : SoundMeaning a) (t : SoundMeaning b) where
       simp e (t.near row (q - a.places) v (omega arith) (omega arith) (omega arith) first k))
       (cases_Bool (nat_le q a.places))
 
+  -- The meaning of two catalogues side by side keeps the bounds.
   pub besides_sound : SoundMeaning (besides a b)
   besides_sound = record {
     few_places = omega arith;
@@ -69,12 +71,15 @@ number_near bs i small = omega (arith, ints, small i, small (i + 1), small (i + 
 
 -- A meaning by a list of places keeps the bounds, if its amounts lie within reach.
 module _ {P : Type 0} (count : P → ℕ) (none : P) (rows : ℕ) (places : List P) (amount : ℕ → ℕ → ℕ → ℤ) (counts : Counted rows (length places)) (each : All (λ p. Versions (count p)) places) where
+  -- How many versions the place of a number has.
   abbrev versions_at : ℕ → ℕ
   versions_at q = count (slice_index_or places (q - 1) none)
 
+  -- Each place has at least one version and at most as many as a place may have.
   versions_kept : (q : ℕ) → 1 ≤ q → q ≤ length places → Versions (versions_at q)
   versions_kept q from to = each (q - 1) none (omega arith)
 
+  -- The meaning with these places, and amounts within reach, keeps the bounds.
   places_sound : ((row q v : ℕ) → v ≤ most_versions → unsigned_abs (amount row q v) ≤ amount_reach) → SoundMeaning (record { places = length places; rows = rows; versions = versions_at; amount = amount })
   places_sound near = record {
     few_places = counts.2;

@@ -35,6 +35,8 @@ fn amounts_on_a_rung(rt: HostRuntime) -> Result<(), Fail> {
     assert_eq!(rt; made.amount(0, 1, 1), Some(10));
     assert_eq!(rt; made.amount(0, 1, 4), Some(-2));
     assert_eq!(rt; made.amount(1, 1, MOST_VERSIONS), Some(-64_424_509_441));
+    assert_eq!(rt; made.add(3, in_each_row(40, 15)), Ok(()));
+    assert_eq!(rt; made.amount(0, 2, 3), Some(70));
     let low = Rung {
         base: i32::MIN,
         step: i32::MIN,

@@ -1,18 +1,24 @@
 -- What a job keeps over a call: its setting, and that it has come about by calls. Assumes nothing.
-use Rattle.std.proofs.Common.{◌≡◌, List, Ok, Err, Result, sym, refl, ap, ◌∙◌, subst}
+use Rattle.std.proofs.Common.{◌≡◌, List, [], Ok, Err, Result, sym, ap, ◌∙◌, subst}
 use Rattle.std.proofs.Math.Logic.{∥∥₁_map}
 use Rattle.rules.specs.declared.refusals.Fault.{Fault}
 use Rattle.rules.specs.declared.sheets.Sheet.{Sheet}
-use Rattle.rules.specs.Catalogues.{Meaning}
+use Rattle.rules.specs.Catalogues.{Meaning, SoundMeaning}
+use Rattle.rules.specs.Openings.{opening}
 use Rattle.rules.specs.Grounds.{Setting}
 use Rattle.rules.specs.Calls.{Call, Job, reply}
 use Rattle.rules.specs.Histories.{Entry}
 use Rattle.rules.specs.Settings.{setting}
-use Rattle.rules.specs.KeptJobs.{CameBy, KeptJob, faultless, faulty, job_by}
+use Rattle.rules.specs.KeptJobs.{CameBy, KeptJob, faultless, faulty, job_by, opened_with}
 use Rattle.rules.proofs.Comings.{came_on}
+use Rattle.rules.proofs.Works.{record_law}
 use Rattle.chooser.specs.Models.{closed_of, kept_closed, kept_running, searched_of, setting_closed, setting_running}
 use Rattle.chooser.specs.declared.closed.Closed.{Closed}
 use Rattle.chooser.specs.declared.running.Running.{Running}
+
+-- a job as it is opened has come about by no call
+pub came_first : (m : Meaning) → SoundMeaning m → (s : Sheet) (k : KeptJob) → k ≡ opened_with s (opening m s) → ∥ ((es : List Entry) × CameBy m s es k) ∥₁
+came_first m w s k e = ∣ ([], subst (CameBy m s []) (sym e) (record_law m w s).opens) ∣₁
 
 module _ (m : Meaning) (s : Sheet) where
   -- a job has come about by some calls

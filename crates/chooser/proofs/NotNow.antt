@@ -1,11 +1,11 @@
 -- A call that the state of a job does not allow. Assumes nothing.
-use Rattle.std.proofs.Common.{◌≡◌, ℕ, ℤ, ◌⊎◌, Ok, Err, Result, Some, None, inl, inr, refl, ap, sym, subst}
+use Rattle.std.proofs.Common.{◌≡◌, ℕ, ℤ, ◌⊎◌, Ok, Err, Result, inl, inr, refl, sym, subst}
 use Rattle.rules.specs.declared.refusals.Fault.{Fault}
 use Rattle.rules.specs.declared.refusals.Refusal.TheVariants.{NotInThisState}
 use Rattle.rules.specs.Grounds.{Setting}
-use Rattle.rules.specs.Calls.{Call as RulesCall, Job, Answer, reply, refused, begin_search, change, clear, close, run}
-use Rattle.rules.specs.KeptJobs.{KeptJob, faulty, faultless, told_on, job_by}
-use Rattle.chooser.specs.Models.{closed_of, fault_or, kept_closed, kept_running, made_told, searched_of}
+use Rattle.rules.specs.Calls.{reply}
+use Rattle.rules.specs.KeptJobs.{KeptJob, told_on, job_by}
+use Rattle.chooser.specs.Models.{fault_or, kept_closed, kept_running, made_told}
 use Rattle.chooser.specs.Requests.{call_of}
 use Rattle.chooser.specs.declared.closed.Closed.{Closed}
 use Rattle.chooser.specs.declared.running.Running.{Running}

@@ -13,4 +13,5 @@ pub enum Job<C: Catalogue> {
     Running(RunningJob<C>),
 }
 
+mod plays;
 mod takes;

@@ -31,5 +31,6 @@ pub struct RunningJob<C: Catalogue> {
 }
 
 mod changes;
+mod opens;
 mod questions;
 mod searches;

@@ -7,7 +7,9 @@ mod jobs;
 mod requests;
 mod running;
 mod verdicts;
+mod whole;
 
 pub use driver::Job;
 pub use jobs::{ClosedJob, RunningJob};
 pub use verdicts::{Choice, ClosingGround, Seen, Told};
+pub use whole::choose;

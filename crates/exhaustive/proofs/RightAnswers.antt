@@ -15,8 +15,10 @@ use Rattle.rules.proofs.Bools.{clash}
 use Rattle.rules.proofs.Inside.{versions_inside, amount_inside, joined_same}
 use Rattle.rules.proofs.KindNumbers.{kind_there, there_kind}
 use Rattle.exhaustive.specs.declared.found.Found.{Found}
-use Rattle.exhaustive.specs.Answers.{SameCounts, KnownKinds, Before, named, FirstCheapest, RightAnswer}
-use Rattle.exhaustive.specs.Trials.{guarded, row_kept, all_kept, counts_same, kind_known, kinds_known, tried, all_tried, answer}
+use Rattle.exhaustive.specs.Answers.{Before, named, FirstCheapest, RightAnswer}
+use Rattle.rules.specs.Openings.{SameCounts, KnownKinds}
+use Rattle.exhaustive.specs.Trials.{guarded, row_kept, all_kept, kinds_known, tried, all_tried, answer}
+use Rattle.rules.specs.Openings.{counts_same, kind_known}
 use Rattle.exhaustive.proofs.KeptRows.{all_at, all_from}
 use Rattle.exhaustive.proofs.FirstCheapest.{SameTo, GoingOn, NoLater, FirstOf, FoundOf, kept_same, total_same, tried_found}
 

@@ -1,22 +1,13 @@
 -- What is answered when every choice is tried. Assumes nothing.
-use Rattle.std.specs.Prelude.{◌≡◌, ℕ, suc, ◌<◌, ◌≤◌, ◌⊎◌, List, take, Some, None, Ok, Err, Option, Result}
-use Rattle.rules.specs.declared.kinds.Kind.{Kind}
+use Rattle.std.specs.Prelude.{◌≡◌, ℕ, ◌<◌, ◌≤◌, ◌⊎◌, List, take, Some, None, Ok, Err, Option, Result}
 use Rattle.rules.specs.declared.refusals.Refusal.{Refusal}
 use Rattle.rules.specs.declared.refusals.Refusal.TheVariants.{CountsDiffer, UnknownKind}
 use Rattle.rules.specs.declared.sheets.Sheet.{Sheet}
-use Rattle.rules.specs.Joinings.{kind_number}
 use Rattle.rules.specs.Catalogues.{Meaning}
-use Rattle.rules.specs.Sheets.{last_row, kind_of, limit_of}
+use Rattle.rules.specs.Sheets.{limit_of}
+use Rattle.rules.specs.Openings.{SameCounts, KnownKinds}
 use Rattle.rules.specs.Choices.{version, Choice, Keeps, price, NoChoice, Cheapest}
 use Rattle.exhaustive.specs.declared.found.Found.{Found}
-
--- The sheet has as many places and rows as the catalogue.
-abbrev pub SameCounts : Meaning → Sheet → Type 0
-SameCounts m s = (m.places ≡ s.places) × (m.rows ≡ suc (last_row s))
-
--- Each row's kind has the number of one.
-abbrev pub KnownKinds : Sheet → Type 0
-KnownKinds s = (r : ℕ) → 1 ≤ r → r ≤ last_row s → (k : Kind) × (kind_number k ≡ kind_of s r)
 
 -- One choice comes before another: at the first place where they differ it has the lower version.
 pub record Before (c d : List ℕ) : Type 0 where

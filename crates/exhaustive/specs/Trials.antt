@@ -1,13 +1,14 @@
 -- How every choice is tried, worked out. Assumes nothing.
-use Rattle.std.specs.Prelude.{ℕ, zero, suc, ◌-◌, Bool, true, if◌then◌else◌, not, ◌&&◌, List, replicate, ℤ, is_some, Some, None, Ok, Err, Option, Result, ◌==◌, int_lt, slice_set}
+use Rattle.std.specs.Prelude.{ℕ, zero, suc, ◌-◌, Bool, true, if◌then◌else◌, not, ◌&&◌, List, replicate, ℤ, Some, None, Ok, Err, Option, Result, int_lt, slice_set}
 use Rattle.rules.specs.declared.refusals.Refusal.{Refusal}
 use Rattle.rules.specs.declared.refusals.Refusal.TheVariants.{CountsDiffer, UnknownKind}
 use Rattle.rules.specs.declared.sheets.Sheet.{Sheet}
 use Rattle.rules.specs.Bounds.{most_places}
-use Rattle.rules.specs.Joinings.{Joining, joined_over, kind_numbered}
+use Rattle.rules.specs.Joinings.{Joining, joined_over}
 use Rattle.rules.specs.Catalogues.{Meaning}
-use Rattle.rules.specs.Sheets.{last_row, kind_of, limit_of, joining_of}
+use Rattle.rules.specs.Sheets.{last_row, limit_of, joining_of}
 use Rattle.rules.specs.Choices.{version, total, price}
+use Rattle.rules.specs.Openings.{counts_same, kind_known}
 use Rattle.rules.specs.Settings.{versions_in, amount_in}
 use Rattle.exhaustive.specs.declared.found.Found.{Found}
 
@@ -57,15 +58,7 @@ module _ (m : Meaning) (s : Sheet) where
 abbrev pub all_tried : Meaning → Sheet → Option Found
 all_tried m s = tried (guarded m) s s.places (replicate most_places 0)
 
--- The sheet has as many places and rows as the catalogue.
-abbrev pub counts_same : Meaning → Sheet → Bool
-counts_same m s = m.places == s.places && m.rows == suc (last_row s)
-
--- The kind of a row has the number of one.
-abbrev pub kind_known : Sheet → ℕ → Bool
-kind_known s row = is_some (kind_numbered (kind_of s row))
-
--- So it is with every row.
+-- The kind of every row has the number of one.
 abbrev pub kinds_known : Sheet → Bool
 kinds_known s = all_first (kind_known s) (suc (last_row s))
 

@@ -1,17 +1,17 @@
 -- What the front of a job comes to with the body of a field that passes its tests. Assumes nothing.
 use Rattle.std.proofs.Common.{◌≡◌, ℕ, ◌+◌, cond, List, [], length, take, OnOk, Ok, Err, Option, Result, sym, ap, ◌∙◌, subst}
 use Rattle.rules.specs.declared.refusals.Fault.{Fault}
-use Rattle.rules.specs.Openings.{first_fault}
+use Rattle.rules.specs.Openings.{first_fault, after_tests}
 use Rattle.rules.specs.Sheets.{order_of}
 use Rattle.jobfile.specs.declared.fields.Field.{Field}
 use Rattle.jobfile.specs.declared.job.Job.{Job}
 use Rattle.jobfile.specs.Stated.{Stated}
 use Rattle.jobfile.specs.CallTables.{calls_of}
 use Rattle.jobfile.specs.InMemory.{ladders_of, listed_of}
-use Rattle.jobfile.specs.Reading.{after_tests, content_tests, decode, early}
+use Rattle.jobfile.specs.Reading.{content_tests, decode, early}
 use Rattle.jobfile.specs.declared.reader.Reader.{Reader}
 use Rattle.jobfile.specs.Readers.{BodyRead, front_job, told}
-use Rattle.jobfile.proofs.TestLoops.{failed_tests, passed_tests}
+use Rattle.rules.proofs.TestLoops.{failed_tests, passed_tests}
 
 -- where the tests found nothing, what comes after them comes
 pub after_passed : {X : Type 0} (o : Option Fault) (x : X) → after_tests o (tt {0}) ≡ Ok (tt {0}) → Ok x ≡ after_tests o x

@@ -5,12 +5,12 @@ use Rattle.jobfile.specs.declared.fields.Field.{Field}
 use Rattle.jobfile.specs.declared.fields.Field.TheVariants as field
 use Rattle.jobfile.specs.Stated.{Stated}
 use Rattle.rules.specs.Numbers.{number_at}
-use Rattle.jobfile.specs.Writing.{fours, rung_numbers, Entry, sheet, row, order, version, ladder, call, field_of, singles, numbers, body}
+use Rattle.jobfile.specs.Writing.{fours, rung_numbers, FieldEntry, sheet, row, order, version, ladder, call, field_of, singles, numbers, body}
 use Rattle.jobfile.specs.Reading.{numbers_in, rungs_in, field_length, decode}
 use Rattle.jobfile.proofs.Codec.{Bytes, byte_at, bytes_drop, number_four, number_drop, fours_back, fours_there, length_fours, length_numbers, rungs_there, rungs_back, length_rungs, length_rung_numbers, number_fits, numbers_fit}
 
 -- an entry has as many numbers as the rows, and an order as many as the places
-abbrev pub Shaped : Stated → Entry → Type 0
+abbrev pub Shaped : Stated → FieldEntry → Type 0
 Shaped j (sheet n m cap) = Unit {0}
 Shaped j (row r) = Unit {0}
 Shaped j (order ps) = length ps ≡ j.places
@@ -19,7 +19,7 @@ Shaped j (ladder q l) = length l.rungs ≡ suc j.last_row
 Shaped j (call r) = Unit {0}
 
 -- its single numbers are bytes, and the others fit four bytes
-pub record Fits (e : Entry) : Type 0 where
+pub record Fits (e : FieldEntry) : Type 0 where
   pub bytes : Bytes (singles e)
   pub long : AllByRecursion (SFits w32) (numbers e)
 
@@ -59,7 +59,7 @@ numbers_again : (k : ℕ) (zs : List ℤ) → length zs ≡ k → AllByRecursion
 numbers_again k zs e w = ap (λ i. numbers_in i (fours zs)) (sym e) ∙ fours_there zs w
 
 -- the body of an entry says that entry
-pub decoded_body : (j : Stated) (e : Entry) → Shaped j e → Fits e → decode j (field_of e) (body e) ≡ e
+pub decoded_body : (j : Stated) (e : FieldEntry) → Shaped j e → Fits e → decode j (field_of e) (body e) ≡ e
 decoded_body j (sheet n m z) h w = ap (sheet n m) (number_four z [] w.long.0)
 decoded_body j (row r) h w = ap (λ z. row (record { kind = r.kind; limit = z })) (number_four r.limit [] w.long.0)
 decoded_body j (order ps) h w = ap order (append-nil ps)
@@ -69,7 +69,7 @@ decoded_body j (ladder q l) h w =
     (ap rungs_in (numbers_again (2 * suc j.last_row) (rung_numbers l.rungs) (length_rung_numbers l.rungs ∙ ap (λ k. 2 * k) h) w.long) ∙ rungs_there l.rungs)
 decoded_body j (call r) h w = ap (λ z. call (record { code = r.code; row = r.row; number = z })) (number_four r.number [] w.long.0)
 
-pub length_body : (j : Stated) (e : Entry) → Shaped j e → length (body e) ≡ field_length j (field_of e)
+pub length_body : (j : Stated) (e : FieldEntry) → Shaped j e → length (body e) ≡ field_length j (field_of e)
 length_body j (sheet n m z) h = refl
 length_body j (row r) h = refl
 length_body j (order ps) h = ap length (append-nil ps) ∙ h

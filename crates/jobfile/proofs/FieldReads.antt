@@ -4,17 +4,17 @@ use Rattle.std.specs.List.{AllByRecursion}
 use Rattle.std.proofs.lemmas.List.{take_at}
 use Rattle.std.proofs.lemmas.Bool.{eqb-true, eq-eqb, leb-true, le-leb, cond-true}
 use Rattle.rules.specs.declared.refusals.Fault.{Fault}
-use Rattle.rules.specs.Openings.{first_fault}
+use Rattle.rules.specs.Openings.{first_fault, after_tests}
 use Rattle.rules.proofs.TestLists.{Passed, all_passed, none_first}
-use Rattle.jobfile.specs.Writing.{Entry, field_of, tag_of, body, field_bytes}
-use Rattle.jobfile.specs.Reading.{Reading, Announced, next, announced, FieldRead, field_length, decode, content_tests, with_entry, after_tests, read_rest, read_announced, read_field}
-use Rattle.jobfile.proofs.TestLoops.{passed_tests}
+use Rattle.jobfile.specs.Writing.{FieldEntry, field_of, tag_of, body, field_bytes}
+use Rattle.jobfile.specs.Reading.{Reading, Announced, next, announced, FieldRead, field_length, decode, content_tests, with_entry, read_rest, read_announced, read_field}
+use Rattle.rules.proofs.TestLoops.{passed_tests}
 use Rattle.jobfile.proofs.Announcing.{announced_as}
 use Rattle.jobfile.proofs.Codec.{Bytes, bytes_take}
 use Rattle.jobfile.proofs.Decoding.{Shaped, Fits, field_decoded, body_decoded, decoded_body, length_body, shaped_decoded, fits_decoded}
 
 -- an entry may come at a byte, and leads from one reading to another
-pub record Takes (at : ℕ) (s : Reading) (e : Entry) (t : Reading) : Type 0 where
+pub record Takes (at : ℕ) (s : Reading) (e : FieldEntry) (t : Reading) : Type 0 where
   pub said : announced s.job s.section (tag_of (field_of e)) ≡ next (field_of e) t.section
   pub shaped : Shaped s.job e
   pub fits : Fits e
@@ -33,14 +33,14 @@ passed_cond true r f e = (refl, e)
 passed_cond false r f e = absurd (refused_ok e)
 
 -- the writing of an entry that may come is read as that entry
-pub entry_reads : (at : ℕ) (s : Reading) (e : Entry) (t : Reading) (rest : List ℕ) → Takes at s e t → read_field s (field_bytes e ++ rest) at ≡ Ok (record { size = length (field_bytes e); reading = t })
+pub entry_reads : (at : ℕ) (s : Reading) (e : FieldEntry) (t : Reading) (rest : List ℕ) → Takes at s e t → read_field s (field_bytes e ++ rest) at ≡ Ok (record { size = length (field_bytes e); reading = t })
 entry_reads at s e t rest k =
     let len = length (body e) in
     let whole : len / 256 * 256 + len % 256 ≡ len = omega arith in
     let long : len ≤ length (body e ++ rest) = omega (arith, length-append (body e) rest) in
     let front : take len (body e ++ rest) ≡ body e = take_at (body e) rest len refl in
     let says : decode s.job (field_of e) (take len (body e ++ rest)) ≡ e = ap (decode s.job (field_of e)) front ∙ decoded_body s.job e k.shaped k.fits in
-    let rd : Entry → Result FieldRead Fault = λ x. after_tests (first_fault (content_tests s.job x at)) (record { size = 3 + len; reading = record { section = t.section; job = with_entry s.job x } }) in
+    let rd : FieldEntry → Result FieldRead Fault = λ x. after_tests (first_fault (content_tests s.job x at)) (record { size = 3 + len; reading = record { section = t.section; job = with_entry s.job x } }) in
     cond-true (leb 3 (length (field_bytes e ++ rest))) _ _ (le-leb _ _ (omega arith))
     ∙ ap (λ o. read_announced s.job o (len / 256 * 256 + len % 256) (body e ++ rest) at) k.said
     ∙ ap (λ n. read_rest s.job (record { field = field_of e; section = t.section }) n (body e ++ rest) at) whole
@@ -52,7 +52,7 @@ entry_reads at s e t rest k =
 
 -- what is read is the writing of an entry that may come
 pub record ReadAs (at : ℕ) (s : Reading) (bs : List ℕ) (k : ℕ) (t : Reading) : Type 0 where
-  pub entry : Entry
+  pub entry : FieldEntry
   pub takes : Takes at s entry t
   pub written : take k bs ≡ field_bytes entry
   pub size : k ≡ length (field_bytes entry)
@@ -62,7 +62,7 @@ module _ (at : ℕ) (s : Reading) (a b c : ℕ) (tail : List ℕ) (small : Bytes
   abbrev len : ℕ
   len = b * 256 + c
 
-  front : (e : Entry) → a ≡ tag_of (field_of e) → b ≡ length (body e) / 256 → c ≡ length (body e) % 256 → body e ≡ take len tail → take (3 + len) (a ∷ (b ∷ (c ∷ tail))) ≡ field_bytes e
+  front : (e : FieldEntry) → a ≡ tag_of (field_of e) → b ≡ length (body e) / 256 → c ≡ length (body e) % 256 → body e ≡ take len tail → take (3 + len) (a ∷ (b ∷ (c ∷ tail))) ≡ field_bytes e
   front e x y z i =
       let more : 3 + len ≡ suc (suc (suc len)) = omega arith in
       ap (λ n. take n (a ∷ (b ∷ (c ∷ tail)))) more ∙ ap₂ ◌∷◌ x (ap₂ ◌∷◌ y (ap₂ ◌∷◌ z (sym i)))
@@ -78,7 +78,7 @@ module _ (at : ℕ) (s : Reading) (a b c : ℕ) (tail : List ℕ) (small : Bytes
 
   pub says : (p : Announced) → announced s.job s.section a ≡ Some p → len ≡ field_length s.job p.field → len ≤ length tail → Says p
   says p said fit long =
-      let e : Entry = decode s.job p.field (take len tail) in
+      let e : FieldEntry = decode s.job p.field (take len tail) in
       let cut : length (take len tail) ≡ len = length-take len tail ∙ omega (arith, long) in
       let small_body : Bytes (take len tail) = bytes_take len tail small.1.1.1 in
       let is : body e ≡ take len tail = body_decoded s.job p.field (take len tail) small_body (cut ∙ fit) in
@@ -93,7 +93,7 @@ module _ (at : ℕ) (s : Reading) (a b c : ℕ) (tail : List ℕ) (small : Bytes
   rest_read p r said h =
       let x = passed_cond (eqb len (field_length s.job p.field)) _ _ h in
       let y = passed_cond (leb len (length tail)) _ _ x.1 in
-      let e : Entry = decode s.job p.field (take len tail) in
+      let e : FieldEntry = decode s.job p.field (take len tail) in
       let o = passed_tests (first_fault (content_tests s.job e at)) (record { size = 3 + len; reading = record { section = p.section; job = with_entry s.job e } }) r y.1 in
       let long : len ≤ length tail = leb-true _ _ y.0 in
       let w = says p said (eqb-true _ _ x.0) long in

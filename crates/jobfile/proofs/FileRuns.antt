@@ -4,18 +4,18 @@ use Rattle.std.proofs.lemmas.List.{drop_at, take-append-drop}
 use Rattle.std.proofs.lemmas.Bool.{eqb-true, ne_eqb, cond-true, cond-false}
 use Rattle.rules.specs.declared.refusals.Fault.{Fault}
 use Rattle.rules.proofs.Bools.{split}
-use Rattle.jobfile.specs.Writing.{Entry, field_bytes, bytes_of}
+use Rattle.jobfile.specs.Writing.{FieldEntry, field_bytes, bytes_of}
 use Rattle.jobfile.specs.Reading.{Reading, FieldRead, and_then, read_field, read_fields}
 use Rattle.jobfile.proofs.Codec.{Bytes, bytes_drop}
 use Rattle.jobfile.proofs.FieldReads.{Takes, refused_ok, entry_reads, field_reads}
 
 -- entries lead from one reading to another
-pub data Runs : ℕ → Reading → List Entry → Reading → Type 0 where
+pub data Runs : ℕ → Reading → List FieldEntry → Reading → Type 0 where
   stop : {at : ℕ} {s : Reading} → Runs at s [] s
-  go : {at : ℕ} {s u t : Reading} {e : Entry} {es : List Entry} → Takes at s e u → Runs (at + length (field_bytes e)) u es t → Runs at s (e ∷ es) t
+  go : {at : ℕ} {s u t : Reading} {e : FieldEntry} {es : List FieldEntry} → Takes at s e u → Runs (at + length (field_bytes e)) u es t → Runs at s (e ∷ es) t
 
 -- the writing of such entries is read
-pub runs_read : (most : ℕ) {at : ℕ} {s t : Reading} {es : List Entry} → Runs at s es t → length (bytes_of es) ≤ most → read_fields most s (bytes_of es) at ≡ Ok t
+pub runs_read : (most : ℕ) {at : ℕ} {s t : Reading} {es : List FieldEntry} → Runs at s es t → length (bytes_of es) ≤ most → read_fields most s (bytes_of es) at ≡ Ok t
 runs_read zero stop h = refl
 runs_read (suc most) stop h = refl
 runs_read zero (go {e = e} {es = es} k r) h = absurd (omega (arith, length-append (field_bytes e) (bytes_of es)))
@@ -33,7 +33,7 @@ passed_then (Err x) f y e = absurd (refused_ok e)
 
 -- what is read is the writing of entries that lead there
 pub record ReadThrough (at : ℕ) (s : Reading) (bs : List ℕ) (t : Reading) : Type 0 where
-  pub entries : List Entry
+  pub entries : List FieldEntry
   pub runs : Runs at s entries t
   pub written : bs ≡ bytes_of entries
 
@@ -58,7 +58,7 @@ read_runs (suc most) at s t bs small l h =
       written = sym (take-append-drop r.size bs) ∙ ap (λ xs. xs ++ drop r.size bs) f.written ∙ ap (λ xs. field_bytes f.entry ++ xs) {x = drop r.size bs} {y = bytes_of g.entries} g.written;
     })
 
-pub runs_join : {at : ℕ} {s u t : Reading} {es fs : List Entry} → Runs at s es u → Runs (at + length (bytes_of es)) u fs t → Runs at s (es ++ fs) t
+pub runs_join : {at : ℕ} {s u t : Reading} {es fs : List FieldEntry} → Runs at s es u → Runs (at + length (bytes_of es)) u fs t → Runs at s (es ++ fs) t
 runs_join {at} {u = u} {t = t} {fs = fs} stop r = subst (λ n. Runs n u fs t) {x = at + 0} {y = at} (omega arith) r
 runs_join {at} {u = u} {t = t} {fs = fs} (go {e = e} {es = es} k q) r =
     go k (runs_join q (subst (λ n. Runs n u fs t) {x = at + length (bytes_of (e ∷ es))} {y = at + length (field_bytes e) + length (bytes_of es)} (omega (arith, length-append (field_bytes e) (bytes_of es))) r))

@@ -14,14 +14,15 @@ use Rattle.rules.proofs.Bools.{clash}
 use Rattle.rules.specs.declared.records.Request.{Request}
 use Rattle.rules.proofs.TestLists.{Passed, test_passed, each_at}
 use Rattle.rules.proofs.Asked.{Fits as Asks, asked_fits}
+use Rattle.rules.specs.Openings.{amount_tests}
 use Rattle.jobfile.specs.Bounds.{most_calls}
 use Rattle.jobfile.specs.Stated.{LadderStated, PlaceStated, Stated}
-use Rattle.jobfile.specs.Writing.{Entry, order, version, ladder, call, version_entries, listed_entries, ladder_entries, early_entries, entries}
+use Rattle.jobfile.specs.Writing.{FieldEntry, order, version, ladder, call, version_entries, listed_entries, ladder_entries, early_entries, entries}
 use Rattle.jobfile.specs.Validity.{ValidVersion, ValidPlace, ValidLadder, ValidCall}
-use Rattle.jobfile.specs.Reading.{held, row_amount_tests, content_tests, with_entry, no_rung, rung_amount}
+use Rattle.jobfile.specs.Reading.{held, content_tests, with_entry, no_rung, rung_amount}
 use Rattle.jobfile.specs.Refusing.{Late}
 use Rattle.jobfile.proofs.Decoding.{Fits}
-use Rattle.jobfile.proofs.AmountTests.{amounts_within}
+use Rattle.rules.proofs.AmountTests.{amounts_within}
 
 -- one ladder more at the end
 ladders_push : (q : ℕ) (ls : List LadderStated) (l : LadderStated) → ladder_entries q (ls ++ (l ∷ [])) ≡ ladder_entries q ls ++ (ladder (q + length ls) l ∷ [])
@@ -43,11 +44,11 @@ listed_empty q [] = refl
 listed_empty q (p ∷ ps) = ap (λ t. version_entries q p ++ t) (listed_empty (suc q) ps)
 
 -- the fields after the order
-abbrev tail : Stated → List Entry
+abbrev tail : Stated → List FieldEntry
 tail j = listed_entries 1 j.listed ++ (ladder_entries (suc (length j.listed)) j.ladders ++ map call j.calls)
 
 -- one field more after the order
-push_tail : (early : List Entry) (o : Entry) (t u : List Entry) (e : Entry) → u ≡ t ++ (e ∷ []) → early ++ (o ∷ u) ≡ (early ++ (o ∷ t)) ++ (e ∷ [])
+push_tail : (early : List FieldEntry) (o : FieldEntry) (t u : List FieldEntry) (e : FieldEntry) → u ≡ t ++ (e ∷ []) → early ++ (o ∷ u) ≡ (early ++ (o ∷ t)) ++ (e ∷ [])
 push_tail early o t u e h = ap (λ x. early ++ (o ∷ x)) h ∙ sym (append_assoc early (o ∷ t) (e ∷ []))
 
 -- ---- versions
@@ -82,7 +83,7 @@ module _ (j : Stated) (q : ℕ) (zs : List ℤ) (at : ℕ) (h : Late j) (none : 
   good_version =
       record {
         each_row = shaped;
-        amounts = All-from_get_or (λ z. nat_abs z ≤ greatest_amount) zs (pos 0) (λ i l. amounts_within j.last_row (λ r. get_or zs r (pos 0)) (λ r. fault_in AmountBeyond at q (suc (length (held j q))) r) passes.1.1 i (omega (arith, shaped)));
+        amounts = All-from_get_or (λ z. nat_abs z ≤ greatest_amount) zs (pos 0) (λ i l. amounts_within (suc j.last_row) (λ r. get_or zs r (pos 0)) (λ r. fault_in AmountBeyond at q (suc (length (held j q))) r) passes.1.1 i (omega (arith, shaped)));
       }
 
   abbrev others : List PlaceStated
@@ -139,8 +140,8 @@ module _ (j : Stated) (q : ℕ) (l : LadderStated) (at : ℕ) (h : Late j) (quie
         each_row = shaped;
         fit = fits.long;
         amounts = λ v x y.
-            let t = each_at Passed (λ v. row_amount_tests j.last_row (rung_amount l.rungs v) (λ r. fault_in AmountBeyond at q v r)) l.count passes.1.1 v x y in
-            All-from_get_or (λ g. nat_abs (rung g.base g.step v) ≤ greatest_amount) l.rungs no_rung (λ i k. amounts_within j.last_row (rung_amount l.rungs v) (λ r. fault_in AmountBeyond at q v r) t i (omega (arith, shaped)));
+            let t = each_at Passed (λ v. amount_tests (suc j.last_row) (rung_amount l.rungs v) (λ r. fault_in AmountBeyond at q v r)) l.count passes.1.1 v x y in
+            All-from_get_or (λ g. nat_abs (rung g.base g.step v) ≤ greatest_amount) l.rungs no_rung (λ i k. amounts_within (suc j.last_row) (rung_amount l.rungs v) (λ r. fault_in AmountBeyond at q v r) t i (omega (arith, shaped)));
       }
 
   pub late_ladder : Late (with_entry j (ladder q l))

@@ -2,7 +2,7 @@
 use Rattle.std.proofs.Common.{◌≡◌, ℕ, suc, ◌+◌, ◌*◌, List, [], ◌∷◌, ◌++◌, map, length, get_or, drop, Ok, Option, sym, ap, ◌∙◌, ap₂}
 use Rattle.std.proofs.lemmas.List.{length-map, map_push}
 use Rattle.rules.specs.declared.refusals.Fault.{Fault}
-use Rattle.rules.specs.Openings.{first_fault}
+use Rattle.rules.specs.Openings.{first_fault, after_tests}
 use Rattle.catalogue.specs.declared.rung.Rung.{Rung}
 use Rattle.catalogue.specs.declared.ladder.Ladder.{Ladder}
 use Rattle.catalogue.specs.Ladder.{with_place}
@@ -10,7 +10,7 @@ use Rattle.jobfile.specs.declared.fields.Field.TheVariants as field
 use Rattle.jobfile.specs.declared.job.Job.{Job}
 use Rattle.jobfile.specs.declared.reader.Reader.{Reader}
 use Rattle.jobfile.specs.Stated.{RungStated, LadderStated, Stated}
-use Rattle.jobfile.specs.Reading.{after_tests, content_tests, decode, ladder_tests, numbers_in, rung_amount, rungs_in}
+use Rattle.jobfile.specs.Reading.{content_tests, decode, ladder_tests, numbers_in, rung_amount, rungs_in}
 use Rattle.jobfile.specs.InMemory.{ladder_of_place, ladders_of, rungs_of}
 use Rattle.jobfile.specs.Readers.{front_job, with_body}
 use Rattle.jobfile.proofs.BodyReads.{after_passed, front_with}

@@ -1,11 +1,10 @@
-pub mod TestLoops
+pub mod RowTests
 pub mod Announcing
 pub mod Codec
 pub mod Rungs
 pub mod Decoding
 pub mod FieldReads
 pub mod FileRuns
-pub mod AmountTests
 pub mod Listings
 pub mod BodyReads
 pub mod VersionReads

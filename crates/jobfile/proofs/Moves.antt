@@ -10,7 +10,7 @@ use Rattle.jobfile.specs.declared.fields.Field.{Field}
 use Rattle.jobfile.specs.declared.fields.Section.{Section}
 use Rattle.jobfile.specs.declared.fields.Section.TheVariants as section
 use Rattle.jobfile.specs.Stated.{Stated}
-use Rattle.jobfile.specs.Writing.{Entry, sheet, row, order, version, ladder, call, field_of, tag_of}
+use Rattle.jobfile.specs.Writing.{FieldEntry, sheet, row, order, version, ladder, call, field_of, tag_of}
 use Rattle.jobfile.specs.Validity.{ValidRow}
 use Rattle.jobfile.specs.Reading.{Reading, Announced, next, announced, content_tests, with_entry}
 use Rattle.jobfile.proofs.Decoding.{Shaped, Fits}
@@ -20,7 +20,7 @@ use Rattle.jobfile.specs.Refusing.{Front, so_far}
 use Rattle.jobfile.proofs.Fronts.{late_version, entries_version, late_ladder, entries_ladder, late_call, entries_call}
 
 -- the job with one field more is the front of a valid job, and its fields are one more
-abbrev Moved : Section → Stated → Entry → Section → Type 0
+abbrev Moved : Section → Stated → FieldEntry → Section → Type 0
 Moved c j e d = Front d (with_entry j e) × (so_far d (with_entry j e) ≡ so_far c j ++ (e ∷ []))
 
 same_next : {f : Field} {a b : Section} → next f a ≡ next f b → a ≡ b
@@ -35,16 +35,16 @@ cond_next false e = no_next e
 
 module _ (j : Stated) (at : ℕ) where
   -- that may come, and is as it should be
-  abbrev Good : Entry → Type 0
+  abbrev Good : FieldEntry → Type 0
   Good e = Shaped j e × Fits e × AllByRecursion Passed (content_tests j e at)
 
-  abbrev Moves : Section → Entry → Type 0
+  abbrev Moves : Section → FieldEntry → Type 0
   Moves c e = (d : Section) → announced j c (tag_of (field_of e)) ≡ next (field_of e) d → Good e → Front c j → Moved c j e d
 
-  to : (c : Section) (e : Entry) (a : Section) → (Good e → Front c j → Moved c j e a) → (d : Section) → next (field_of e) a ≡ next (field_of e) d → Good e → Front c j → Moved c j e d
+  to : (c : Section) (e : FieldEntry) (a : Section) → (Good e → Front c j → Moved c j e a) → (d : Section) → next (field_of e) a ≡ next (field_of e) d → Good e → Front c j → Moved c j e d
   to c e a f d h g k = subst (Moved c j e) (same_next h) (f g k)
 
-  moves : (c : Section) (e : Entry) → Moves c e
+  moves : (c : Section) (e : FieldEntry) → Moves c e
   moves section.Start (sheet n m cap) =
       to section.Start (sheet n m cap) section.Rows (λ g k.
       let a = and_parts _ _ (test_passed _ _ g.2.0) in
@@ -124,15 +124,15 @@ module _ (j : Stated) (at : ℕ) where
 abbrev pub FrontOf : Reading → Type 0
 FrontOf s = Front s.section s.job
 
-abbrev pub fields_of : Reading → List Entry
+abbrev pub fields_of : Reading → List FieldEntry
 fields_of s = so_far s.section s.job
 
-pub takes_front : {at : ℕ} (s : Reading) (e : Entry) (t : Reading) → Takes at s e t → FrontOf s → FrontOf t × (fields_of t ≡ fields_of s ++ (e ∷ []))
+pub takes_front : {at : ℕ} (s : Reading) (e : FieldEntry) (t : Reading) → Takes at s e t → FrontOf s → FrontOf t × (fields_of t ≡ fields_of s ++ (e ∷ []))
 takes_front {at} s e t k f =
     subst (λ x. Front t.section x × (so_far t.section x ≡ fields_of s ++ (e ∷ []))) (sym k.adds)
     (moves s.job at s.section e t.section k.said (k.shaped, k.fits, k.passes) f)
 
-pub runs_front : {at : ℕ} {s t : Reading} {es : List Entry} → Runs at s es t → FrontOf s → FrontOf t × (fields_of t ≡ fields_of s ++ es)
+pub runs_front : {at : ℕ} {s t : Reading} {es : List FieldEntry} → Runs at s es t → FrontOf s → FrontOf t × (fields_of t ≡ fields_of s ++ es)
 runs_front {s = s} stop f = (f, sym (append-nil (fields_of s)))
 runs_front {s = s} {t = t} (go {u = u} {e = e} {es = es} k r) f =
     let a = takes_front s e u k f in

@@ -4,15 +4,15 @@ use Rattle.std.proofs.lemmas.List.{take-append-drop}
 use Rattle.std.proofs.lemmas.Bool.{leb-true, leb-false, le-leb, eqb-true, eqb-false, cond-true, cond-false}
 use Rattle.rules.specs.declared.refusals.Fault.{Fault}
 use Rattle.rules.specs.declared.refusals.Refusal.TheVariants.{TagNotAllowed, CountsDiffer}
-use Rattle.rules.specs.Openings.{first_fault}
+use Rattle.rules.specs.Openings.{first_fault, after_tests}
 use Rattle.rules.specs.Refusals.{fault_in}
 use Rattle.rules.proofs.Bools.{split}
 use Rattle.jobfile.specs.Bounds.{most_bytes}
-use Rattle.jobfile.specs.Writing.{Entry, field_bytes, bytes_of}
-use Rattle.jobfile.specs.Reading.{Reading, fresh, Announced, next, announced, field_length, decode, content_tests, after_tests, and_then, FieldRead, read_rest, read_announced, read_field, read_fields, early, finish, read}
+use Rattle.jobfile.specs.Writing.{FieldEntry, field_bytes, bytes_of}
+use Rattle.jobfile.specs.Reading.{Reading, fresh, Announced, next, announced, field_length, decode, content_tests, and_then, FieldRead, read_rest, read_announced, read_field, read_fields, early, finish, read}
 use Rattle.jobfile.specs.Refusing.{FirstFailing, FieldFails, head_cut, tag_wrong, length_wrong, body_cut, contents_wrong, Refused, too_long, at_field, no_order, places_missing}
 use Rattle.jobfile.specs.Theorems.{RefusedLaw}
-use Rattle.jobfile.proofs.TestLoops.{failed_tests}
+use Rattle.rules.proofs.TestLoops.{failed_tests}
 use Rattle.jobfile.proofs.Codec.{Bytes, bytes_drop}
 use Rattle.jobfile.proofs.FieldReads.{refused_ok, says, field_reads}
 use Rattle.jobfile.proofs.FileRuns.{read_runs}
@@ -51,7 +51,7 @@ module _ (at : ℕ) (s : Reading) (f : Fault) (a b c : ℕ) (tail : List ℕ) (s
       split (leb len (length tail))
       (λ y.
       let w = says at s a b c tail small p said fit (leb-true _ _ y) in
-      let e : Entry = decode s.job p.field (take len tail) in
+      let e : FieldEntry = decode s.job p.field (take len tail) in
       contents_wrong e p.section (said ∙ ap (λ k. next k p.section) (sym w.kind)) w.written
       (tests_refuse (content_tests s.job e at) _ f (sym (cond-true (leb len (length tail)) _ _ y) ∙ h₁)))
       (λ y. subst (FieldFails s.section s.job bs at) (err_same (sym (cond-false (leb len (length tail)) _ _ y) ∙ h₁)) (body_cut p (omega arith) said fit (omega (arith, leb-false _ _ y)))))
@@ -68,7 +68,7 @@ field_fails at s f (a ∷ (b ∷ [])) small h = subst (FieldFails s.section s.jo
 field_fails at s f (a ∷ (b ∷ (c ∷ tail))) small h =
     announced_fails at s f a b c tail small (announced s.job s.section a) refl (sym (cond-true (leb 3 (length (a ∷ (b ∷ (c ∷ tail))))) _ _ (le-leb 3 (length (a ∷ (b ∷ (c ∷ tail)))) (omega arith))) ∙ h)
 
-bytes_push : (es fs : List Entry) → bytes_of (es ++ fs) ≡ bytes_of es ++ bytes_of fs
+bytes_push : (es fs : List FieldEntry) → bytes_of (es ++ fs) ≡ bytes_of es ++ bytes_of fs
 bytes_push [] fs = refl
 bytes_push (e ∷ es) fs = ap (λ x. field_bytes e ++ x) (bytes_push es fs) ∙ sym (append_assoc (field_bytes e) (bytes_of es) (bytes_of fs))
 

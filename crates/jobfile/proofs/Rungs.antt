@@ -1,15 +1,16 @@
 -- The rungs of a ladder in a table, and in the body of a field. Assumes nothing.
-use Rattle.std.proofs.Common.{◌≡◌, ℕ, zero, suc, ◌+◌, ◌*◌, ◌<◌, ◌≤◌, List, ◌∷◌, map, length, get_or, get_or-take, take, drop, sym, refl, ap, ◌∙◌, ap₂, subst, inl, inr, arith}
+use Rattle.std.proofs.Common.{◌≡◌, ℕ, zero, suc, ◌+◌, ◌*◌, ◌<◌, ◌≤◌, List, ◌∷◌, map, length, get_or, get_or-take, take, drop, sym, refl, ap, ◌∙◌, ap₂, arith}
 use Rattle.std.specs.List.{range_with_len}
 use denote.Param.Members.{Mut, Called}
-use Rattle.std.specs.Array.{IsFromFnResult, IsFromFnResultFrom}
-use Rattle.std.proofs.lemmas.Bool.{cases_lt}
+use Rattle.std.specs.Array.{IsFromFnResult}
 use Rattle.std.proofs.lemmas.List.FromFn.{take-map-range_with_len, fill_by_all}
 use Rattle.rules.specs.Bounds.{most_rows, greatest_row}
 use Rattle.std.proofs.lemmas.List.{length-map, get_or-map, take-map, drop-drop}
 use Rattle.rules.specs.Numbers.{number_at}
 use Rattle.rules.specs.Catalogues.{rung}
+use Rattle.rules.proofs.Filled.{each_filled}
 use Rattle.catalogue.specs.declared.rung.Rung.{Rung}
+use Rattle.catalogue.specs.Ladder.{no_rung as blank}
 use Rattle.jobfile.specs.Stated.{RungStated}
 use Rattle.jobfile.specs.InMemory.{rungs_of}
 use Rattle.jobfile.specs.Reading.{no_rung, numbers_in, rungs_in, rung_amount}
@@ -49,23 +50,13 @@ rungs_counted k bs = sym (from_row k 0 bs)
 
 -- a table of rungs that a closure made row by row, each from a body
 module _ {F : Type 0} (g : Mut F (ℕ × Unit {0}) Rung) (f : F) (bs : List ℕ) (makes : (r : ℕ) (y : Rung) (q : F) → r < most_rows → Called g f (r, tt) y q → (q ≡ f) × (y.base ≡ number_at bs (2 + 8 * r)) × (y.step ≡ number_at bs (6 + 8 * r))) where
-  made : (n i : ℕ) (ys : List Rung) → length ys ≡ most_rows → i + n ≤ most_rows → IsFromFnResultFrom g f ys i n → (r : ℕ) → i ≤ r → r < i + n → (d : RungStated) → get_or (map stated ys) r d ≡ rung_in bs r
-  made zero i ys long l h r from to d = absurd (omega arith)
-  made (suc n) i ys long l h r from to d =
-      let m = makes i h.1 h.0 (omega arith) h.3 in
-      elim (cases_lt i r) [
-        | inl later ↦ made n (i + 1) ys long (omega arith) (subst (λ q. IsFromFnResultFrom g q ys (i + 1) n) m.0 h.4) r (omega arith) (omega arith) d
-        | inr here ↦
-            let same : i ≡ r = omega arith in
-            let step : 6 + 8 * i ≡ 2 + 8 * i + 4 = omega arith in
-            get_or-map stated ys r h.1 d (omega (arith, long))
-            ∙ ap (λ k. stated (get_or ys k h.1)) (sym same)
-            ∙ ap stated h.2.0
-            ∙ ap₂ (λ b s. record { base = b; step = s }) m.1 (m.2 ∙ ap (number_at bs) step)
-            ∙ ap (rung_in bs) same
-      ]
+  made : (r : ℕ) (y : Rung) (q : F) → r < most_rows → Called g f (r, tt) y q → (q ≡ f) × (stated y ≡ rung_in bs r)
+  made r y q to k =
+      let m = makes r y q to k in
+      let step : 6 + 8 * r ≡ 2 + 8 * r + 4 = omega arith in
+      (m.0, ap₂ (λ b s. record { base = b; step = s }) m.1 (m.2 ∙ ap (number_at bs) step))
 
   pub rungs_made : (ys : List Rung) (m : ℕ) → m ≤ greatest_row → IsFromFnResult g f ys most_rows → rungs_of (suc m) ys ≡ rungs_in (numbers_in (2 * suc m) (drop 2 bs))
   rungs_made ys m l h =
-      let all = fill_by_all (rung_in bs) (map stated ys) most_rows no_rung (length-map ys stated ∙ h.long) (λ r to. made most_rows 0 ys h.long (omega arith) h.each r (omega arith) to no_rung) in
+      let all = fill_by_all (rung_in bs) (map stated ys) most_rows no_rung (length-map ys stated ∙ h.long) (λ r to. get_or-map stated ys r blank no_rung (omega (arith, h.long)) ∙ each_filled g f most_rows (λ r y. stated y ≡ rung_in bs r) made ys blank h r to) in
       sym (take-map stated (suc m) ys) ∙ ap (take (suc m)) all ∙ take-map-range_with_len (rung_in bs) 0 most_rows (suc m) (omega arith) ∙ rungs_counted (suc m) bs

@@ -9,7 +9,7 @@ use Rattle.rules.specs.Catalogues.{Meaning, SameAnswers, has_amount, has_place, 
 use Rattle.rules.specs.Sheets.{last_row}
 use Rattle.catalogue.specs.declared.ladder.LadderPlace.{LadderPlace}
 use Rattle.catalogue.specs.declared.rung.Rung.{Rung}
-use Rattle.catalogue.specs.Ladder.{no_place, no_rung, place_at, rung_at}
+use Rattle.catalogue.specs.Ladder.{no_place, no_rung, ladder_at, rung_at}
 use Rattle.catalogue.specs.Listed.{amount_start, behind, listed_at}
 use Rattle.jobfile.specs.declared.job.Job.{Job}
 use Rattle.jobfile.specs.Stated.{RungStated}
@@ -79,7 +79,7 @@ module _ (file : List ℕ) (j : Job) (rows : SameRows j) (few : length j.listing
   listed = length_listed file j.listing
 
   -- the place at a position behind the listed ones
-  ladder_there : (q : ℕ) → listed_count < q → q ≤ listed_count + ladder_count → ladder_of (stated_by file j) q ≡ ladder_of_place j.ladder.rows (place_at j.ladder.places.items (q - listed_count))
+  ladder_there : (q : ℕ) → listed_count < q → q ≤ listed_count + ladder_count → ladder_of (stated_by file j) q ≡ ladder_of_place j.ladder.rows (ladder_at j.ladder.places.items (q - listed_count))
   ladder_there q past to =
       let i : q - suc listed_count ≡ q - listed_count - 1 = omega arith in
       ap (λ n. get_or (ladders_of j.ladder) (q - suc n) no_ladder) listed
@@ -113,14 +113,14 @@ module _ (file : List ℕ) (j : Job) (rows : SameRows j) (few : length j.listing
   versions_same : (q : ℕ) → 1 ≤ q → q ≤ listed_count + ladder_count → (job_meaning file j).versions q ≡ (stated_meaning (stated_by file j)).versions q
   versions_same q from to =
       let p = listed_at j.listing.places.items q in
-      by_place q p.count (place_at j.ladder.places.items (q - listed_count)).count (length (held (stated_by file j) q)) (ladder_of (stated_by file j) q).count
+      by_place q p.count (ladder_at j.ladder.places.items (q - listed_count)).count (length (held (stated_by file j) q)) (ladder_of (stated_by file j) q).count
       (λ near. sym (ap length (held_at file j.listing q from near) ∙ length-map-range_with_len (λ k. amounts_at file j.listing.rows (behind j.listing.rows p k)) 0 p.count))
       (λ past. sym (ap (λ l. l.count) (ladder_there q past to)))
 
   amounts_same : (row q v : ℕ) → row < suc (last_row j.sheet) → 1 ≤ q → q ≤ listed_count + ladder_count → 1 ≤ v → v ≤ (stated_meaning (stated_by file j)).versions q → (job_meaning file j).amount row q v ≡ (stated_meaning (stated_by file j)).amount row q v
   amounts_same row q v in_row from to first last =
       let p = listed_at j.listing.places.items q in
-      let g = place_at j.ladder.places.items (q - listed_count) in
+      let g = ladder_at j.ladder.places.items (q - listed_count) in
       by_place q (number_at file (amount_start j.listing.rows p row v)) (rung (rung_at j.ladder.places.items row (q - listed_count)).base (rung_at j.ladder.places.items row (q - listed_count)).step v) (get_or (get_or (held (stated_by file j) q) (v - 1) []) row (pos 0)) (rung_amount (ladder_of (stated_by file j) q).rungs v row)
       (λ near. amount_there_listed row q v (omega (arith, rows.listing)) from near first (omega (arith, last, versions_same q from to, cond-true (leb q listed_count) p.count g.count (le-leb q listed_count near))))
       (λ past. rung_there g row v (omega (arith, rows.ladder)) ∙ sym (ap (λ l. rung_amount l.rungs v row) (ladder_there q past to)))

@@ -5,7 +5,7 @@ use Rattle.std.proofs.lemmas.List.FromFn.{map-range_with_len_more}
 use Rattle.std.proofs.lemmas.List.{length-set, length-take-le, map_push, take-map, take_all, take_more_set}
 use Rattle.std.proofs.lemmas.Bool.{and_parts, cond-true, cond-false, leb-true, ltb-true, ltb-false}
 use Rattle.rules.specs.Bounds.{most_versions}
-use Rattle.rules.specs.Openings.{first_fault}
+use Rattle.rules.specs.Openings.{first_fault, after_tests}
 use Rattle.rules.proofs.Bools.{clash, split}
 use Rattle.rules.proofs.TestLists.{all_passed, test_passed}
 use Rattle.catalogue.specs.declared.listed.ListedPlace.{ListedPlace}
@@ -16,10 +16,10 @@ use Rattle.jobfile.specs.declared.job.Job.{Job}
 use Rattle.jobfile.specs.declared.reader.Reader.{Reader}
 use Rattle.jobfile.specs.Stated.{PlaceStated, Stated}
 use Rattle.jobfile.specs.Sound.{HoldsIn, ListingEnds, Sound}
-use Rattle.jobfile.specs.Reading.{after_tests, amount_in, content_tests, decode, early, numbers_in, version_tests}
+use Rattle.jobfile.specs.Reading.{amount_in, content_tests, decode, early, numbers_in, version_tests}
 use Rattle.jobfile.specs.InMemory.{amounts_at, versions_of, listed_of, with_version}
 use Rattle.jobfile.specs.Readers.{Due, front_job, with_body}
-use Rattle.jobfile.proofs.TestLoops.{passed_tests}
+use Rattle.rules.proofs.TestLoops.{passed_tests}
 use Rattle.jobfile.proofs.BodyReads.{after_passed, front_with}
 use Rattle.jobfile.proofs.Listings.{amounts_are, found_by_listing, held_at, held_past, version_tests_are}
 

@@ -20,6 +20,7 @@ use Rattle.rules.proofs.TestLists.{Passed, passed_test, each_all, contained_all}
 use Rattle.rules.proofs.KindNumbers.{there_kind}
 use Rattle.rules.proofs.Asked.{asked_request}
 use Rattle.rules.proofs.Orders.{once_fine}
+use Rattle.rules.specs.Openings.{amount_tests}
 use Rattle.jobfile.specs.declared.fields.Field.TheVariants as field
 use Rattle.jobfile.specs.declared.fields.Section.{Section}
 use Rattle.jobfile.specs.declared.fields.Section.TheVariants as section
@@ -27,8 +28,8 @@ use Rattle.jobfile.specs.Bounds.{most_calls}
 use Rattle.jobfile.specs.Stated.{LadderStated, PlaceStated, Stated}
 use Rattle.jobfile.specs.Writing.{sheet, row, order, version, ladder, call, field_bytes, bytes_of, version_entries, listed_entries, ladder_entries, entries}
 use Rattle.jobfile.specs.Validity.{ValidRow, ValidVersion, ValidPlace, ValidLadder, ValidCall, Valid}
-use Rattle.jobfile.specs.Reading.{Reading, fresh, next, announced, rung_amount, no_rung, row_amount_tests}
-use Rattle.jobfile.proofs.AmountTests.{within_amounts}
+use Rattle.jobfile.specs.Reading.{Reading, fresh, next, announced, rung_amount, no_rung}
+use Rattle.rules.proofs.AmountTests.{within_amounts}
 use Rattle.jobfile.proofs.FieldReads.{Takes}
 use Rattle.jobfile.proofs.FileRuns.{Runs, stop, go, runs_join}
 
@@ -142,7 +143,7 @@ module _ (j : Stated) (v : Valid j) where
           passed_test _ (fault_in PlaceOutOfTurn at 0 0 0) (and_from _ _ (le-leb _ _ a) (and_from _ _ (le-leb _ _ b) (and_from _ _ (le-leb _ _ c) (le-leb _ _ d)))),
           (
             passed_test _ (fault_in VersionsOutside at 0 0 0) (lt-ltb _ _ room),
-            within_amounts j.last_row (λ r. get_or zs r (pos 0)) (λ r. fault_in AmountBeyond at q (suc (length (get_or qs (q - 1) []))) r) (λ r l. All-get_or (λ z. nat_abs z ≤ greatest_amount) zs r (pos 0) (omega (arith, h.each_row)) h.amounts),
+            within_amounts (suc j.last_row) (λ r. get_or zs r (pos 0)) (λ r. fault_in AmountBeyond at q (suc (length (get_or qs (q - 1) []))) r) (λ r l. All-get_or (λ z. nat_abs z ≤ greatest_amount) zs r (pos 0) (omega (arith, h.each_row)) h.amounts),
           ),
         );
         adds = refl;
@@ -159,8 +160,8 @@ module _ (j : Stated) (v : Valid j) where
           passed_test _ (fault_in PlaceOutOfTurn at 0 0 0) (and_from _ _ (eq-eqb q q refl) (le-leb _ _ room)),
           (
             passed_test _ (fault_in VersionsOutside at 0 0 0) (and_from _ _ (le-leb _ _ h.some) (le-leb _ _ h.few)),
-            each_all Passed (λ w. row_amount_tests j.last_row (rung_amount l.rungs w) (λ r. fault_in AmountBeyond at q w r)) l.count
-                (λ w x y. within_amounts j.last_row (rung_amount l.rungs w) (λ r. fault_in AmountBeyond at q w r) (λ r k. All-get_or (λ g. nat_abs (rung g.base g.step w) ≤ greatest_amount) l.rungs r no_rung (omega (arith, h.each_row)) (h.amounts w x y))),
+            each_all Passed (λ w. amount_tests (suc j.last_row) (rung_amount l.rungs w) (λ r. fault_in AmountBeyond at q w r)) l.count
+                (λ w x y. within_amounts (suc j.last_row) (rung_amount l.rungs w) (λ r. fault_in AmountBeyond at q w r) (λ r k. All-get_or (λ g. nat_abs (rung g.base g.step w) ≤ greatest_amount) l.rungs r no_rung (omega (arith, h.each_row)) (h.amounts w x y))),
           ),
         );
         adds = refl;

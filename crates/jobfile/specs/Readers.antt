@@ -1,7 +1,7 @@
 -- How far a reader in memory has come, and what a field makes of it. Assumes nothing.
 use Rattle.std.specs.Prelude.{◌≡◌, ℕ, ◌+◌, ◌-◌, ◌<◌, ◌≤◌, List, [], length, take, drop, OnOk, Ok, Err, Result, if◌then◌else◌}
 use Rattle.rules.specs.declared.refusals.Fault.{Fault}
-use Rattle.rules.specs.Openings.{first_fault}
+use Rattle.rules.specs.Openings.{first_fault, after_tests}
 use Rattle.rules.specs.Sheets.{last_row, order_of}
 use Rattle.jobfile.specs.declared.fields.Field.{Field}
 use Rattle.jobfile.specs.declared.fields.Field.TheVariants as field
@@ -11,7 +11,7 @@ use Rattle.jobfile.specs.Stated.{Stated}
 use Rattle.jobfile.specs.CallTables.{calls_of}
 use Rattle.jobfile.specs.Begun.{BeforeOrder}
 use Rattle.jobfile.specs.InMemory.{listed_of, ladders_of}
-use Rattle.jobfile.specs.Reading.{Reading, FieldRead, decode, content_tests, early, field_length, with_entry, after_tests}
+use Rattle.jobfile.specs.Reading.{Reading, FieldRead, decode, content_tests, early, field_length, with_entry}
 
 -- The front of a job as far as a reader has it; between the head of the order field and its body the order is whatever the sheet has.
 abbrev pub front_job : Reader → Stated

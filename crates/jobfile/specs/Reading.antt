@@ -4,12 +4,12 @@ use Rattle.rules.specs.declared.records.Request.{Request}
 use Rattle.rules.specs.declared.refusals.Fault.{Fault}
 use Rattle.rules.specs.declared.refusals.Refusal.{Refusal}
 use Rattle.rules.specs.declared.refusals.Refusal.TheVariants.{FileTooLong, FieldCut, TagNotAllowed, WrongLength, NoCall, CountOutside, UnknownKind, LimitBeyond, OrderNotOnce, PlaceOutOfTurn, VersionsOutside, CountsDiffer, AmountBeyond}
-use Rattle.rules.specs.Bounds.{most_places, greatest_row, most_versions, greatest_amount, greatest_limit}
+use Rattle.rules.specs.Bounds.{most_places, greatest_row, most_versions, greatest_limit}
 use Rattle.rules.specs.Numbers.{number_at}
 use Rattle.rules.specs.Joinings.{kind_numbered}
 use Rattle.rules.specs.Catalogues.{rung}
 use Rattle.rules.specs.Refusals.{fault_in}
-use Rattle.rules.specs.Openings.{each_to, test, contains_all, first_fault}
+use Rattle.rules.specs.Openings.{each_to, test, contains_all, amount_tests, first_fault, after_tests}
 use Rattle.rules.specs.Records.{asked}
 use Rattle.jobfile.specs.declared.fields.Field.{Field}
 use Rattle.jobfile.specs.declared.fields.Field.TheVariants as field
@@ -17,7 +17,7 @@ use Rattle.jobfile.specs.declared.fields.Section.{Section}
 use Rattle.jobfile.specs.declared.fields.Section.TheVariants as section
 use Rattle.jobfile.specs.Bounds.{most_bytes, most_calls}
 use Rattle.jobfile.specs.Stated.{RungStated, PlaceStated, Stated}
-use Rattle.jobfile.specs.Writing.{Entry, sheet, row, order, version, ladder, call}
+use Rattle.jobfile.specs.Writing.{FieldEntry, sheet, row, order, version, ladder, call}
 
 -- How far a file is read: its section, and the job as far as it is stated.
 pub record Reading : Type 0 where
@@ -80,7 +80,7 @@ field_length j field.Ladder = 10 + 8 * j.last_row
 field_length j field.Call = 6
 
 -- What the body of a field says.
-abbrev pub decode : Stated → Field → List ℕ → Entry
+abbrev pub decode : Stated → Field → List ℕ → FieldEntry
 decode j field.Sheet bs = sheet (slice_index bs 0) (slice_index bs 1) (number_at bs 2)
 decode j field.Row bs = row (record { kind = slice_index bs 0; limit = number_at bs 1 })
 decode j field.Order bs = order bs
@@ -96,17 +96,9 @@ held j q = slice_index_or j.listed (q - 1) []
 abbrev pub limit_good : ℤ → Bool
 limit_good z = nat_le (unsigned_abs z) greatest_limit
 
--- An amount within the bound.
-abbrev pub amount_good : ℤ → Bool
-amount_good z = nat_le (unsigned_abs z) greatest_amount
-
 -- The fault of an amount beyond its bound, in a field that begins at a byte.
 abbrev pub amount_fault : ℕ → ℕ → ℕ → ℕ → Fault
 amount_fault at q v r = fault_in AmountBeyond at q v r
-
--- The tests of each row's amount, from row 0 to the last one m; amounts are given by row.
-abbrev pub row_amount_tests : ℕ → (ℕ → ℤ) → (ℕ → Fault) → List (Option Fault)
-row_amount_tests m amount bad = each_to (λ k. test (amount_good (amount (k - 1))) (bad (k - 1)) ∷ []) (suc m)
 
 -- The rung of a row that a ladder does not have.
 abbrev pub no_rung : RungStated
@@ -135,21 +127,21 @@ abbrev pub version_tests : ℕ → ℕ → ℕ → ℕ → ℕ → (ℕ → ℤ)
 version_tests n m listed has q amount at =
     test (nat_le 1 q && (nat_le q n && (nat_le listed q && nat_le q (suc listed)))) (fault_in PlaceOutOfTurn at 0 0 0)
     ∷ test (nat_lt has most_versions) (fault_in VersionsOutside at 0 0 0)
-    ∷ row_amount_tests m amount (λ r. fault_in AmountBeyond at q (suc has) r)
+    ∷ amount_tests (suc m) amount (λ r. fault_in AmountBeyond at q (suc has) r)
 
 -- The tests of a ladder of place q, for n places and rows up to m: the place's turn after so many places, the count, and the amounts by version and row.
 abbrev pub ladder_tests : ℕ → ℕ → ℕ → ℕ → ℕ → (ℕ → ℕ → ℤ) → ℕ → List (Option Fault)
 ladder_tests n m found q count amount at =
     test (q == suc found && nat_le q n) (fault_in PlaceOutOfTurn at 0 0 0)
     ∷ test (nat_le 1 count && nat_le count most_versions) (fault_in VersionsOutside at 0 0 0)
-    ∷ each_to (λ v. row_amount_tests m (amount v) (λ r. fault_in AmountBeyond at q v r)) count
+    ∷ each_to (λ v. amount_tests (suc m) (amount v) (λ r. fault_in AmountBeyond at q v r)) count
 
 -- The test of a call after so many calls.
 abbrev pub call_tests : ℕ → Request → ℕ → List (Option Fault)
 call_tests calls r at = test (nat_lt calls most_calls && is_some (asked r)) (fault_in NoCall at 0 0 0) ∷ []
 
 -- The tests of what a field says, by rising number; the field begins at a byte.
-abbrev pub content_tests : Stated → Entry → ℕ → List (Option Fault)
+abbrev pub content_tests : Stated → FieldEntry → ℕ → List (Option Fault)
 content_tests j (sheet n m cap) at = sheet_tests n m cap at
 content_tests j (row r) at = row_tests r.kind r.limit at
 content_tests j (order ps) at = order_tests j.places ps at
@@ -158,7 +150,7 @@ content_tests j (ladder q l) at = ladder_tests j.places j.last_row (length j.lis
 content_tests j (call r) at = call_tests (length j.calls) r at
 
 -- The job with what a field adds; a sheet and an order have nothing after them yet.
-abbrev pub with_entry : Stated → Entry → Stated
+abbrev pub with_entry : Stated → FieldEntry → Stated
 with_entry j (sheet n m cap) = record { places = n; last_row = m; cap = cap; rows = []; order = []; listed = []; ladders = []; calls = [] }
 with_entry j (row r) =
     record { places = j.places; last_row = j.last_row; cap = j.cap; rows = j.rows ++ (r ∷ []); order = j.order; listed = j.listed; ladders = j.ladders; calls = j.calls }
@@ -179,15 +171,6 @@ with_entry j (ladder q l) =
     record { places = j.places; last_row = j.last_row; cap = j.cap; rows = j.rows; order = j.order; listed = j.listed; ladders = j.ladders ++ (l ∷ []); calls = j.calls }
 with_entry j (call r) =
     record { places = j.places; last_row = j.last_row; cap = j.cap; rows = j.rows; order = j.order; listed = j.listed; ladders = j.ladders; calls = j.calls ++ (r ∷ []) }
-
--- The first fault among tests, or what comes after them.
-abbrev pub after_tests : {X : Type 0} → Option Fault → X → Result X Fault
-after_tests (Some f) x = Err f
-after_tests None x = Ok x
-
--- That tests pass, or the first fault among them.
-abbrev pub checked : List (Option Fault) → Result (Unit {0}) Fault
-checked ts = after_tests (first_fault ts) tt
 
 -- What follows a step that may be refused.
 abbrev pub and_then : {X Y : Type 0} → Result X Fault → (X → Result Y Fault) → Result Y Fault

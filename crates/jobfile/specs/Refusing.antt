@@ -10,7 +10,7 @@ use Rattle.jobfile.specs.declared.fields.Section.{Section}
 use Rattle.jobfile.specs.declared.fields.Section.TheVariants as section
 use Rattle.jobfile.specs.Bounds.{most_bytes, most_calls}
 use Rattle.jobfile.specs.Stated.{Stated}
-use Rattle.jobfile.specs.Writing.{Entry, field_of, field_bytes, bytes_of, early_entries, entries}
+use Rattle.jobfile.specs.Writing.{FieldEntry, field_of, field_bytes, bytes_of, early_entries, entries}
 use Rattle.jobfile.specs.Validity.{ValidRow, ValidPlace, ValidLadder, ValidCall}
 use Rattle.jobfile.specs.Reading.{Announced, next, announced, field_length, content_tests, early}
 
@@ -48,7 +48,7 @@ Front section.Ladders j = Late j × (j.calls ≡ [])
 Front section.Calls j = Late j
 
 -- The fields of that front.
-abbrev pub so_far : Section → Stated → List Entry
+abbrev pub so_far : Section → Stated → List FieldEntry
 so_far section.Start j = []
 so_far section.Rows j = early_entries j
 so_far section.Versions j = entries j
@@ -81,7 +81,7 @@ pub data FieldFails (c : Section) (j : Stated) (bs : List ℕ) (at : ℕ) : Faul
   -- the body is cut
   body_cut : (p : Announced) → 3 ≤ length bs → announced j c (tag_in bs) ≡ Some p → length_in bs ≡ field_length j p.field → length bs < 3 + length_in bs → FieldFails c j bs at (fault_in FieldCut at 0 0 0)
   -- the field is the writing of something that may come there, and its contents fail a test
-  contents_wrong : {f : Fault} (e : Entry) (d : Section) → announced j c (tag_in bs) ≡ next (field_of e) d → take (3 + length_in bs) bs ≡ field_bytes e → FirstFailing (content_tests j e at) f → FieldFails c j bs at f
+  contents_wrong : {f : Fault} (e : FieldEntry) (d : Section) → announced j c (tag_in bs) ≡ next (field_of e) d → take (3 + length_in bs) bs ≡ field_bytes e → FirstFailing (content_tests j e at) f → FieldFails c j bs at f
 
 -- Why a file is refused with a fault.
 pub data Refused : List ℕ → Fault → Type 0 where

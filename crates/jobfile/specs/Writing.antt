@@ -22,16 +22,16 @@ rung_numbers [] = []
 rung_numbers (g ∷ gs) = g.base ∷ (g.step ∷ rung_numbers gs)
 
 -- What one field says.
-pub data Entry : Type 0 where
-  sheet : ℕ → ℕ → ℤ → Entry
-  row : Row → Entry
-  order : List ℕ → Entry
-  version : ℕ → List ℤ → Entry
-  ladder : ℕ → LadderStated → Entry
-  call : Request → Entry
+pub data FieldEntry : Type 0 where
+  sheet : ℕ → ℕ → ℤ → FieldEntry
+  row : Row → FieldEntry
+  order : List ℕ → FieldEntry
+  version : ℕ → List ℤ → FieldEntry
+  ladder : ℕ → LadderStated → FieldEntry
+  call : Request → FieldEntry
 
 -- The field that says it.
-abbrev pub field_of : Entry → Field
+abbrev pub field_of : FieldEntry → Field
 field_of (sheet n m cap) = field.Sheet
 field_of (row r) = field.Row
 field_of (order ps) = field.Order
@@ -49,7 +49,7 @@ tag_of field.Ladder = 5
 tag_of field.Call = 6
 
 -- The single bytes at the front of a body.
-abbrev pub singles : Entry → List ℕ
+abbrev pub singles : FieldEntry → List ℕ
 singles (sheet n m cap) = n ∷ (m ∷ [])
 singles (row r) = r.kind ∷ []
 singles (order ps) = ps
@@ -58,7 +58,7 @@ singles (ladder q l) = q ∷ (l.count ∷ [])
 singles (call r) = r.code ∷ (r.row ∷ [])
 
 -- The numbers that follow, of four bytes each.
-abbrev pub numbers : Entry → List ℤ
+abbrev pub numbers : FieldEntry → List ℤ
 numbers (sheet n m cap) = cap ∷ []
 numbers (row r) = r.limit ∷ []
 numbers (order ps) = []
@@ -67,38 +67,38 @@ numbers (ladder q l) = rung_numbers l.rungs
 numbers (call r) = r.number ∷ []
 
 -- The body of the field that says it.
-abbrev pub body : Entry → List ℕ
+abbrev pub body : FieldEntry → List ℕ
 body e = singles e ++ fours (numbers e)
 
 -- A field: its tag, the length of its body in two bytes, and its body.
-abbrev pub field_bytes : Entry → List ℕ
+abbrev pub field_bytes : FieldEntry → List ℕ
 field_bytes e = tag_of (field_of e) ∷ ((length (body e) / 256) ∷ ((length (body e) % 256) ∷ body e))
 
 -- Fields one after the other.
-abbrev pub bytes_of : List Entry → List ℕ
+abbrev pub bytes_of : List FieldEntry → List ℕ
 bytes_of [] = []
 bytes_of (e ∷ es) = field_bytes e ++ bytes_of es
 
 -- A version field for each version of a place.
-abbrev pub version_entries : ℕ → PlaceStated → List Entry
+abbrev pub version_entries : ℕ → PlaceStated → List FieldEntry
 version_entries q vs = map (version q) vs
 
 -- The version fields of the places from one on.
-abbrev pub listed_entries : ℕ → List PlaceStated → List Entry
+abbrev pub listed_entries : ℕ → List PlaceStated → List FieldEntry
 listed_entries q [] = []
 listed_entries q (p ∷ ps) = version_entries q p ++ listed_entries (suc q) ps
 
 -- The ladder fields of the places from one on.
-abbrev pub ladder_entries : ℕ → List LadderStated → List Entry
+abbrev pub ladder_entries : ℕ → List LadderStated → List FieldEntry
 ladder_entries q [] = []
 ladder_entries q (l ∷ ls) = ladder q l ∷ ladder_entries (suc q) ls
 
 -- The fields of a job up to its rows.
-abbrev pub early_entries : Stated → List Entry
+abbrev pub early_entries : Stated → List FieldEntry
 early_entries j = sheet j.places j.last_row j.cap ∷ map row j.rows
 
 -- The fields of a job.
-abbrev pub entries : Stated → List Entry
+abbrev pub entries : Stated → List FieldEntry
 entries j =
     early_entries j
     ++ (order j.order ∷ (listed_entries 1 j.listed ++ (ladder_entries (suc (length j.listed)) j.ladders ++ map call j.calls)))

@@ -1,9 +1,9 @@
 // What the bodies of fields say.
 ghost use Rattle.std.specs.Prelude.{◌≡◌, ℕ, suc, ◌*◌, ◌≤◌, length, drop, slice_index};
 ghost use Rattle.rules.specs.Bounds.{greatest_row};
-ghost use Rattle.rules.specs.Openings.{each_to};
+ghost use Rattle.rules.specs.Openings.{each_to, checked, amount_tests};
 ghost use Rattle.jobfile.specs.InMemory.{rungs_of};
-ghost use Rattle.jobfile.specs.Reading.{amount_fault, checked, ladder_tests, numbers_in, row_amount_tests, rungs_in};
+ghost use Rattle.jobfile.specs.Reading.{amount_fault, ladder_tests, numbers_in, rungs_in};
 
 use crate::checks::{Spot, check_amounts, fault_at};
 use catalogue::Rung;
@@ -62,7 +62,7 @@ impl LadderBody {
 
     // The amounts of a version.
     fn check_version(&self, version: u8, at: u16) -> Result<(), Fault>
-        ensures { result ≡ checked (row_amount_tests self.now.last_row (amount_of self.now version) (amount_fault at self.now.place version)) }
+        ensures { result ≡ checked (amount_tests (suc self.now.last_row) (amount_of self.now version) (amount_fault at self.now.place version)) }
     {
         let spot = Spot {
             byte: at,
@@ -74,7 +74,7 @@ impl LadderBody {
 
     // The amounts of every version.
     fn check_versions(&self, at: u16) -> Result<(), Fault>
-        ensures { result ≡ checked (each_to (λ v. row_amount_tests self.now.last_row (amount_of self.now v) (amount_fault at self.now.place v)) self.now.count) }
+        ensures { result ≡ checked (each_to (λ v. amount_tests (suc self.now.last_row) (amount_of self.now v) (amount_fault at self.now.place v)) self.now.count) }
     {
         for version in 1..=self.count {
             self.check_version(version, at)?;

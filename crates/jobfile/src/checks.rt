@@ -1,16 +1,16 @@
 // The tests of what a field says, each with the fault that it gives.
-ghost use Rattle.std.specs.Prelude.{◌≡◌, ℕ, ◌+◌, ◌*◌, ◌≤◌, ℤ, length, is_some, slice_index};
+ghost use Rattle.std.specs.Prelude.{◌≡◌, ℕ, suc, ◌+◌, ◌*◌, ◌≤◌, ℤ, length, is_some, slice_index};
 ghost use Rattle.rules.specs.Bounds.{greatest_row};
-ghost use Rattle.rules.specs.Openings.{contains_all};
+ghost use Rattle.rules.specs.Openings.{checked, amount_tests};
 ghost use Rattle.rules.specs.Refusals.{fault_in};
 ghost use Rattle.rules.specs.Records.{asked};
-ghost use Rattle.jobfile.specs.Reading.{amount_fault, amount_in, checked, row_amount_tests, sheet_tests, row_tests, order_tests, version_tests, call_tests};
+ghost use Rattle.jobfile.specs.Reading.{amount_fault, amount_in, sheet_tests, row_tests, order_tests, version_tests, call_tests};
 ghost use Rattle.jobfile.specs.Amounts.{Gives};
 
 use crate::bounds::MOST_CALLS;
 use rules::{
     Fault, GREATEST_AMOUNT, GREATEST_LIMIT, GREATEST_ROW, Kind, MOST_PLACES, MOST_VERSIONS,
-    Refusal, Request, Row, Sheet, number_at,
+    Refusal, Request, Row, Sheet, lists_each, number_at,
 };
 
 // A fault of the field that begins at a byte.
@@ -18,10 +18,8 @@ pub(crate) fn fault_at(refusal: Refusal, at: u16) -> Fault
     ensures { result ≡ fault_in refusal at 0 0 0 }
 {
     Fault {
-        layer: refusal.layer(),
-        number: refusal.number(),
         byte: at,
-        ..Fault::default()
+        ..Fault::from(refusal)
     }
 }
 
@@ -47,13 +45,6 @@ pub(crate) fn check_row(row: Row, at: u16) -> Result<(), Fault>
         return Err(fault_at(Refusal::LimitBeyond, at));
     }
     Ok(())
-}
-
-// An order lists each place from 1 on.
-fn lists_each(n: u8, order: &[u8]) -> bool
-    ensures { result ≡ contains_all n order.now }
-{
-    (1..=n).all(|place| order.contains(&place))
 }
 
 // The order of so many places.
@@ -96,7 +87,7 @@ pub(crate) fn check_amounts<A: Fn(u8) -> i64>(
 ) -> Result<(), Fault>
     requires few { last_row ≤ greatest_row }
     requires callable { (row : ℕ) → row ≤ last_row → A.pre amount row }
-    ensures { (amounts : ℕ → ℤ) → Gives (A.post amount) last_row amounts → result ≡ checked (row_amount_tests last_row amounts (amount_fault spot.byte spot.place spot.version)) }
+    ensures { (amounts : ℕ → ℤ) → Gives (A.post amount) last_row amounts → result ≡ checked (amount_tests (suc last_row) amounts (amount_fault spot.byte spot.place spot.version)) }
 {
     for row in 0..=last_row {
         if amount(row).unsigned_abs() > GREATEST_AMOUNT {

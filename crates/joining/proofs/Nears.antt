@@ -6,7 +6,7 @@ use Rattle.rules.specs.Joinings.{Joining, Laws, joined_over}
 use Rattle.rules.specs.Catalogues.{Meaning, SoundMeaning, has_place, has_amount}
 use Rattle.rules.specs.Choices.{version}
 use Rattle.rules.specs.Settings.{amount_in}
-use Rattle.joining.specs.Held.{held}
+use Rattle.joining.specs.Held.{held_in_64}
 use Rattle.joining.proofs.Held.{held_near}
 
 amount_near : (m : Meaning) → SoundMeaning m → (row q v : ℕ) → nat_abs (amount_in m row q v) ≤ amount_reach
@@ -34,9 +34,9 @@ module _ (m : Meaning) (w : SoundMeaning m) (J : Joining) (laws : Laws J) (row :
       omega (arith, laws.near (joined_over J f q) (f (suc q)), joined_near q, amount_near m w row (suc q) (version c (suc q)), suc-mul (suc q) amount_reach)
 
   -- one place more
-  pub joined_more : (q : ℕ) (joined amount : ℤ) → q < 2 ^ 8 → joined ≡ joined_over J f q → amount ≡ f (q + 1) → held (J.join joined amount) ≡ joined_over J f (q + 1)
+  pub joined_more : (q : ℕ) (joined amount : ℤ) → q < 2 ^ 8 → joined ≡ joined_over J f q → amount ≡ f (q + 1) → held_in_64 (J.join joined amount) ≡ joined_over J f (q + 1)
   joined_more q joined amount h j a =
       let at : q + 1 ≡ suc q = omega arith in
-      ap₂ (λ x y. held (J.join x y)) j (a ∙ ap f at)
+      ap₂ (λ x y. held_in_64 (J.join x y)) j (a ∙ ap f at)
       ∙ held_near (joined_over J f (suc q)) (omega (arith, joined_near (suc q), suc-mul (suc q) amount_reach))
       ∙ ap (joined_over J f) (sym at)

@@ -4,6 +4,7 @@ ghost use Rattle.rules.specs.Joinings.{greatest_at_most};
 ghost use Rattle.rules.proofs.JoiningLaws.{greatest_at_most_laws};
 
 use crate::Joining;
+use rules::AMOUNT_REACH;
 
 pub struct GreatestAtMost;
 
@@ -13,7 +14,7 @@ impl Joining for GreatestAtMost {
     // No amount of a catalogue is less.
     ghost UNIT = { greatest_at_most.unit };
 
-    const UNIT: i64 = -(1 << 40);
+    const UNIT: i64 = -(AMOUNT_REACH as i64);
 
     ghost unit = { refl };
 

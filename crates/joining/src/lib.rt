@@ -3,7 +3,7 @@
 
 ghost use Rattle.std.specs.Prelude.{◌≡◌, ℤ};
 ghost use Rattle.rules.specs.Joinings.{Joining as Rule, Laws};
-ghost use Rattle.joining.specs.Held.{held};
+ghost use Rattle.joining.specs.Held.{held_in_64};
 
 mod greatest_at_most;
 mod sum_at_least;
@@ -30,7 +30,7 @@ pub trait Joining {
 
     // Two amounts joined, held within 64 bits.
     fn join(a: i64, b: i64) -> i64
-        ensures { result ≡ held (rule.join a b) };
+        ensures { result ≡ held_in_64 (rule.join a b) };
 
     // Whether the first of two totals is worse.
     fn is_worse(a: i64, b: i64) -> bool
@@ -43,9 +43,10 @@ pub trait Joining {
 #[cfg(test)]
 mod tests {
     use super::*;
+    use rules::AMOUNT_REACH;
     use std::process::Abort;
 
-    const REACH: i64 = 1 << 40;
+    const REACH: i64 = AMOUNT_REACH as i64;
 
     // The two kinds that add differ in their order only.
     fn check_sums<J: Joining>(rt: &impl Abort) {

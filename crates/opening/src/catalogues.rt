@@ -12,13 +12,13 @@ use rules::{Fault, GREATEST_AMOUNT, Refusal, Sheet};
 fn check_counts<C: Catalogue>(sheet: &Sheet, catalogue: &C) -> Result<(), Fault>
     ensures { result ≡ checked (same_counts_test (C.Catalogue.meaning catalogue.now) sheet.now ∷ []) }
 {
-    let place = catalogue.places();
-    let row = catalogue.rows();
+    let places = catalogue.places();
+    let rows = catalogue.rows();
     // Every catalogue has the price's row, so there is one to take away.
-    if place != sheet.places || row - 1 != sheet.last_row {
+    if places != sheet.places || rows - 1 != sheet.last_row {
         return Err(Fault {
-            place,
-            row,
+            place: places,
+            row: rows,
             ..Fault::from(Refusal::CountsDiffer)
         });
     }
@@ -26,12 +26,7 @@ fn check_counts<C: Catalogue>(sheet: &Sheet, catalogue: &C) -> Result<(), Fault>
 }
 
 // One amount that the catalogue has.
-fn check_amount<C: Catalogue>(
-    catalogue: &C,
-    place: u8,
-    version: u8,
-    row: u8,
-) -> Result<(), Fault>
+fn check_amount<C: Catalogue>(catalogue: &C, place: u8, version: u8, row: u8) -> Result<(), Fault>
     requires { has_amount (C.Catalogue.meaning catalogue.now) row place version ≡ true }
     ensures { result ≡ checked (amount_test ((C.Catalogue.meaning catalogue.now).amount row place version) (fault_at AmountBeyond place version row) ∷ []) }
 {

@@ -12,25 +12,9 @@ use rules::{Fault, Sheet};
 // A sheet and a catalogue with which a job opens without fault.
 #[derive(Drop)]
 pub struct Checked<'a, C: Catalogue> {
-    sheet: &'a Sheet,
-    catalogue: &'a C,
+    pub sheet: &'a Sheet,
+    pub catalogue: &'a C,
     ghost faultless: { opening (C.Catalogue.meaning catalogue.now) sheet.now ≡ None } by { Prim.hlevel props },
-}
-
-impl<'a, C: Catalogue> Checked<'a, C> {
-    // The sheet.
-    pub fn sheet(&self) -> &'a Sheet
-        ensures { result.now ≡ self.now.sheet.now }
-    {
-        self.sheet
-    }
-
-    // The catalogue.
-    pub fn catalogue(&self) -> &'a C
-        ensures { result.now ≡ self.now.catalogue.now }
-    {
-        self.catalogue
-    }
 }
 
 // Tests a sheet and a catalogue as an opening does: the first fault, if there is one.

@@ -6,3 +6,6 @@ mod checked;
 mod sheets;
 
 pub use checked::{Checked, check};
+
+#[cfg(test)]
+mod tests;

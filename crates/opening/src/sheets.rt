@@ -1,9 +1,11 @@
 // The tests of a sheet.
 ghost use Rattle.std.specs.Prelude.{◌≡◌, ◌≤◌, [], ◌∷◌};
 ghost use Rattle.rules.specs.Bounds.{most_places, greatest_row};
-ghost use Rattle.rules.specs.Openings.{contains_all, checked, counts_test, limit_test, row_tests, rows_tests, order_test, sheet_tests};
+ghost use Rattle.rules.specs.Openings.{checked, counts_test, limit_test, row_tests, rows_tests, order_test, sheet_tests};
 
-use rules::{Fault, GREATEST_LIMIT, GREATEST_ROW, Kind, MOST_PLACES, Refusal, Row, Sheet};
+use rules::{
+    Fault, GREATEST_LIMIT, GREATEST_ROW, Kind, MOST_PLACES, Refusal, Row, Sheet, lists_each,
+};
 
 // The counts of places and rows.
 fn check_counts(sheet: &Sheet) -> Result<(), Fault>
@@ -44,13 +46,6 @@ fn check_rows(sheet: &Sheet) -> Result<(), Fault>
         check_row(*row)?;
     }
     Ok(())
-}
-
-// An order lists each place from 1 on.
-fn lists_each(n: u8, order: &[u8]) -> bool
-    ensures { result ≡ contains_all n order.now }
-{
-    (1..=n).all(|place| order.contains(&place))
 }
 
 // The order of the places.

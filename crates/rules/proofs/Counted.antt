@@ -1,8 +1,8 @@
 -- What `all` answers over the places of an order, looked for one after the other. Assumes nothing.
-use Rattle.std.proofs.Common.{◌≡◌, ℕ, ◌||◌, Bool, true, false, List, [], ◌∷◌, ◌==◌, sym, refl, ap, ◌∙◌}
+use Rattle.std.proofs.Common.{ℕ, ◌≡◌, Bool, true, false, List, ◌==◌, sym}
 use Rattle.std.specs.Bool.{MatchBool}
 use Rattle.std.specs.List.{list_any}
-use Rattle.rules.specs.Openings.{contains, contains_all}
+use Rattle.rules.specs.Openings.{contains_all}
 use Rattle.rules.proofs.Bools.{split}
 use Rattle.rules.proofs.Ranges.{Each}
 use Rattle.rules.proofs.TestLists.{all_contained, contained_all, any_contains, contains_any}
@@ -11,11 +11,7 @@ use Rattle.rules.proofs.TestLists.{all_contained, contained_all, any_contains, c
 abbrev pub lists : List ℕ → ℕ → Bool
 lists xs q = list_any (λ x. x == q) xs
 
-listed : (q : ℕ) (xs : List ℕ) → lists xs q ≡ contains q xs
-listed q [] = refl
-listed q (x ∷ xs) = ap (λ b. (x == q) || b) (listed q xs)
-
 pub all_counted : (n : ℕ) (xs : List ℕ) (r : Bool) → MatchBool r (Each 1 n (lists xs)) (Each 1 n (lists xs) → ⊥) → r ≡ contains_all n xs
-all_counted n xs true h = sym (contained_all n xs (λ q from to. contains_any q xs (sym (listed q xs) ∙ h q from to)))
+all_counted n xs true h = sym (contained_all n xs (λ q from to. contains_any q xs (h q from to)))
 all_counted n xs false h =
-    split (contains_all n xs) (λ e. absurd (h (λ q from to. listed q xs ∙ any_contains q xs (all_contained n xs e q from to)))) sym
+    split (contains_all n xs) (λ e. absurd (h (λ q from to. any_contains q xs (all_contained n xs e q from to)))) sym

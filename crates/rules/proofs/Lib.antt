@@ -11,6 +11,7 @@ pub mod Potential
 pub mod Ranges
 pub mod Agree
 pub mod Ending
+pub mod EndSaid
 pub mod Replies
 pub mod Shapes
 pub mod Merging
@@ -25,7 +26,10 @@ pub mod TestLists
 pub mod Counted
 pub mod Filled
 pub mod TestLoops
+pub mod AmountTests
 pub mod OpeningTests
+pub mod FirstFaults
+pub mod PartChoices
 pub mod Asked
 pub mod Works
 pub mod Comings

@@ -3,7 +3,7 @@ use Rattle.std.proofs.Common.{◌≡◌, ℕ, zero, suc, ◌≤◌, true, false,
 use Rattle.std.specs.List.{AllByRecursion}
 use Rattle.std.proofs.lemmas.Bool.{cond_both, and_parts, eqb-true, cases_lt}
 use Rattle.rules.specs.declared.lines.Line.{Line}
-use Rattle.rules.specs.Sheets.{Any}
+use Rattle.rules.specs.Sheets.{AnyByRecursion}
 use Rattle.rules.specs.Grounds.{Ground, Part, Setting, SoundSetting, before, kept, learn_from, learned_up_to, moved, open_places, same_place, with_line, with_lines}
 use Rattle.rules.specs.Theorems.{LearningLaw, Replaces}
 use Rattle.rules.proofs.Bools.{split, clash}
@@ -11,13 +11,13 @@ use Rattle.rules.proofs.Joined.{still_worse}
 use Rattle.rules.proofs.StandingLines.{Known, with_lines_all}
 use Rattle.rules.proofs.Shapes.{up_to_ordered}
 
-any_weaker : {A : Type 0} (P Q : A → Type 0) → ((x : A) → P x → Q x) → (xs : List A) → Any P xs → Any Q xs
+any_weaker : {A : Type 0} (P Q : A → Type 0) → ((x : A) → P x → Q x) → (xs : List A) → AnyByRecursion P xs → AnyByRecursion Q xs
 any_weaker P Q f [] h = h
 any_weaker P Q f (x ∷ xs) (inl h) = inl (f x h)
 any_weaker P Q f (x ∷ xs) (inr h) = inr (any_weaker P Q f xs h)
 
 -- each element is in the list
-all_in : {A : Type 0} (P : A → Type 0) (xs : List A) → ((x : A) → Any (λ y. x ≡ y) xs → P x) → AllByRecursion P xs
+all_in : {A : Type 0} (P : A → Type 0) (xs : List A) → ((x : A) → AnyByRecursion (λ y. x ≡ y) xs → P x) → AllByRecursion P xs
 all_in P [] h = tt
 all_in P (x ∷ xs) h = (h x (inl refl), all_in P xs (λ y k. h y (inr k)))
 
@@ -56,7 +56,7 @@ module _ (S : Setting) (W : SoundSetting S) where
       (r ∙ m.0, q ∙ m.1, ak))
 
   abbrev Covered : Ground → Line → Type 0
-  Covered g k = Any (λ l. Replaces S l k) g
+  Covered g k = AnyByRecursion (λ l. Replaces S l k) g
 
   covered_new : (a : Line) (g : Ground) → Known S a → Covered (with_line S a g) a
   covered_new a [] h = inl (replaces_itself a h)
@@ -90,7 +90,7 @@ module _ (S : Setting) (W : SoundSetting S) where
     moved_known v (l ∷ ls) h = (cond_both (eqb (suc l.level) (open_places S t)) _ l (Known S) (λ _. h.0) (λ _. h.0), moved_known v ls h.1)
 
     abbrev From : ℕ → Line → Type 0
-    From n l = (v : ℕ) × (1 ≤ v) × (v ≤ n) × Any (λ k. l ≡ moved S t v k) (pick v)
+    From n l = (v : ℕ) × (1 ≤ v) × (v ≤ n) × AnyByRecursion (λ k. l ≡ moved S t v k) (pick v)
 
     up_to_from : (n k : ℕ) → k ≤ n → AllByRecursion (From n) (learned_up_to S t pick k)
     up_to_from n zero h = tt
@@ -124,5 +124,5 @@ learning_law S W t pick known =
     record {
       ordered = up_to_ordered S t pick (S.versions (open_places S t));
       taken_over = up_to_from S W t pick (S.versions (open_places S t)) (S.versions (open_places S t)) (omega arith);
-      replaced = λ v a b. all_unmap (moved S t v) (λ k. Any (λ l. Replaces S l k) (learned_up_to S t pick (S.versions (open_places S t)))) (pick v) (up_to_replaced S W t pick (S.versions (open_places S t)) known v a b);
+      replaced = λ v a b. all_unmap (moved S t v) (λ k. AnyByRecursion (λ l. Replaces S l k) (learned_up_to S t pick (S.versions (open_places S t)))) (pick v) (up_to_replaced S W t pick (S.versions (open_places S t)) known v a b);
     }

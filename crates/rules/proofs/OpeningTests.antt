@@ -1,19 +1,19 @@
 -- An opening finds a fault exactly when there is one. Assumes nothing.
-use Rattle.std.proofs.Common.{◌≡◌, ℕ, suc, ◌-◌, ◌≤◌, true, eqb, leb, List, [], ◌∷◌, length, ℤ, nat_abs, is_some, None, Option, subst, inl, inr, arith}
+use Rattle.std.proofs.Common.{◌≡◌, ℕ, suc, ◌≤◌, true, eqb, leb, List, [], ◌∷◌, length, ℤ, nat_abs, is_some, None, Option, subst, inl, inr, arith}
 use Rattle.std.specs.List.{AllByRecursion}
 use Rattle.std.proofs.ByRecursion.{All-append}
 use Rattle.std.proofs.lemmas.Bool.{and_parts, and_from, leb-true, le-leb, eqb-true, eq-eqb, cases_lt}
 use Rattle.rules.specs.declared.refusals.Fault.{Fault}
 use Rattle.rules.specs.declared.refusals.Refusal.TheVariants.{AmountBeyond, CountOutside, CountsDiffer, LimitBeyond, OrderNotOnce, UnknownKind}
 use Rattle.rules.specs.declared.sheets.Sheet.{Sheet}
-use Rattle.rules.specs.Bounds.{greatest_amount, greatest_limit}
+use Rattle.rules.specs.Bounds.{greatest_limit}
 use Rattle.rules.specs.Joinings.{kind_numbered}
 use Rattle.rules.specs.Catalogues.{Meaning}
 use Rattle.rules.specs.Sheets.{kind_of, last_row, limit_of, order_of}
 use Rattle.rules.specs.Refusals.{fault, fault_at}
-use Rattle.rules.specs.Openings.{Faultless, amount_test, catalogue_tests, contains_all, each_to, limit_test, opening, order_test, place_tests, row_tests, rows_tests, sheet_tests, tests, version_tests}
-use Rattle.rules.specs.Theorems.{OpeningLaw}
+use Rattle.rules.specs.Openings.{Faultless, catalogue_tests, contains_all, each_to, limit_test, opening, order_test, place_tests, row_tests, rows_tests, sheet_tests, tests, version_tests}
 use Rattle.rules.proofs.TestLists.{Passed, all_passed, none_first, test_passed, passed_test, all_left, all_right, each_at, each_all, all_contained, contained_all}
+use Rattle.rules.proofs.AmountTests.{amounts_within, within_amounts}
 use Rattle.rules.proofs.KindNumbers.{kind_there, there_kind}
 
 limit_kept : (z : ℤ) → Passed (limit_test z) → nat_abs z ≤ greatest_limit
@@ -25,9 +25,6 @@ kept_limit z h = passed_test _ (fault LimitBeyond) (le-leb _ _ h)
 module _ (m : Meaning) (s : Sheet) where
   abbrev row_tests_at : ℕ → List (Option Fault)
   row_tests_at r = row_tests (kind_of s r) (limit_of s r)
-
-  abbrev amount_tests_at : ℕ → ℕ → ℕ → List (Option Fault)
-  amount_tests_at q v k = amount_test (m.amount (k - 1) q v) (fault_at AmountBeyond q v (k - 1)) ∷ []
 
   pub none_faultless : opening m s ≡ None → Faultless m s
   unfolding opening
@@ -59,9 +56,7 @@ module _ (m : Meaning) (s : Sheet) where
         amounts = λ r q v b qa qb va vb.
             let at_place = each_at Passed (place_tests m) m.places of_catalogue.1 q qa (omega (arith, same_places)) in
             let at_version = each_at Passed (version_tests m q) (m.versions q) at_place v va vb in
-            let at_row = each_at Passed (amount_tests_at q v) m.rows at_version (suc r) (omega arith) (omega (arith, same_rows)) in
-            let e : suc r - 1 ≡ r = omega arith in
-            subst (λ x. nat_abs (m.amount x q v) ≤ greatest_amount) e (leb-true _ _ (test_passed (leb (nat_abs (m.amount (suc r - 1) q v)) greatest_amount) (fault_at AmountBeyond q v (suc r - 1)) at_row.0));
+            amounts_within m.rows (λ row. m.amount row q v) (fault_at AmountBeyond q v) at_version r (omega (arith, same_rows));
       }
 
   pub faultless_none : Faultless m s → opening m s ≡ None
@@ -73,15 +68,9 @@ module _ (m : Meaning) (s : Sheet) where
       let amounts : AllByRecursion Passed (each_to (place_tests m) m.places) =
       each_all Passed (place_tests m) m.places (λ q qa qb.
       each_all Passed (version_tests m q) (m.versions q) (λ v va vb.
-      each_all Passed (amount_tests_at q v) m.rows (λ k ka kb.
-      let low : k - 1 ≤ last_row s = omega (arith, f.same_rows) in
-      let there : q ≤ s.places = omega (arith, f.same_places) in
-      (passed_test _ (fault_at AmountBeyond q v (k - 1)) (le-leb _ _ (f.amounts (k - 1) q v low qa there va vb)), tt)))) in
+      within_amounts m.rows (λ row. m.amount row q v) (fault_at AmountBeyond q v) (λ row l. f.amounts row q v (omega (arith, f.same_rows)) qa (omega (arith, f.same_places)) va vb))) in
       let counts = passed_test _ (fault CountOutside) (and_from _ _ (le-leb 1 s.places f.some_place) (and_from _ _ (le-leb s.places 16 f.few_places) (le-leb (last_row s) 8 f.few_rows))) in
       let once = passed_test _ (fault OrderNotOnce) (and_from _ _ (eq-eqb _ _ f.order.0) (contained_all s.places (order_of s) f.order.1)) in
       let same = passed_test _ (fault_at CountsDiffer m.places 0 m.rows) (and_from _ _ (eq-eqb _ _ f.same_places) (eq-eqb _ _ f.same_rows)) in
       let of_sheet : AllByRecursion Passed (sheet_tests s) = (counts, (limit 0 (omega arith), All-append Passed (rows_tests s (last_row s)) (order_test s ∷ []) rows (once, tt))) in
       none_first (tests m s) (All-append Passed (sheet_tests s) (catalogue_tests m s) of_sheet (same, amounts))
-
-pub opening_law : OpeningLaw
-opening_law m s = (none_faultless m s, faultless_none m s)

@@ -5,7 +5,7 @@ use Rattle.std.specs.List.{AllByRecursion}
 use Rattle.std.proofs.ByRecursion.{All-weaker}
 use Rattle.std.proofs.lemmas.Bool.{cond-true, cond-false, eq-eqb, ne_eqb}
 use Rattle.rules.specs.Joinings.{Joining, Laws, joined_over}
-use Rattle.rules.specs.Sheets.{Any, EachOnce}
+use Rattle.rules.specs.Sheets.{AnyByRecursion, EachOnce}
 use Rattle.rules.specs.Grounds.{Part, Proper, Setting, open_places, part_total}
 use Rattle.rules.specs.Settings.{place_at, version_in}
 use Rattle.rules.proofs.ByPosition.{Complete}
@@ -39,7 +39,7 @@ data Inserted (q : ℕ) : List ℕ → List ℕ → Type 0 where
   here : {xs : List ℕ} → Inserted q xs (q ∷ xs)
   there : {x : ℕ} {xs ys : List ℕ} → Inserted q xs ys → Inserted q (x ∷ xs) (x ∷ ys)
 
-taken_out : (q : ℕ) (ys : List ℕ) → Any (λ x. x ≡ q) ys → (xs : List ℕ) × Inserted q xs ys
+taken_out : (q : ℕ) (ys : List ℕ) → AnyByRecursion (λ x. x ≡ q) ys → (xs : List ℕ) × Inserted q xs ys
 taken_out q [] h = absurd h
 taken_out q (y ∷ ys) (inl e) = (ys, subst (λ x. Inserted q ys (x ∷ ys)) (sym e) here)
 taken_out q (y ∷ ys) (inr h) = let r = taken_out q ys h in (y ∷ r.0, there r.1)
@@ -48,7 +48,7 @@ inserted_length : {q : ℕ} {xs ys : List ℕ} → Inserted q xs ys → length y
 inserted_length here = refl
 inserted_length (there i) = ap suc (inserted_length i)
 
-inserted_any : {q : ℕ} {xs ys : List ℕ} → Inserted q xs ys → (r : ℕ) → (r ≡ q → ⊥) → Any (λ x. x ≡ r) ys → Any (λ x. x ≡ r) xs
+inserted_any : {q : ℕ} {xs ys : List ℕ} → Inserted q xs ys → (r : ℕ) → (r ≡ q → ⊥) → AnyByRecursion (λ x. x ≡ r) ys → AnyByRecursion (λ x. x ≡ r) xs
 inserted_any here r d (inl e) = absurd (d (sym e))
 inserted_any here r d (inr h) = h
 inserted_any (there i) r d (inl e) = inl e
@@ -160,7 +160,7 @@ module _ (O : Offer) (order : List ℕ) (once : EachOnce O.places order) where
       let l = length-map rest choice in
       ((h.1, subst (λ x. choice q ≤ O.versions x) (position pre q rest e (map choice rest) l) h.2), versions_there choice (pre ++ (q ∷ [])) rest (more_pre pre q rest e) h.3)
 
-  pub any_of : (P : ℕ → Type 0) (xs : List ℕ) (q : ℕ) → AllByRecursion P xs → Any (λ x. x ≡ q) xs → P q
+  pub any_of : (P : ℕ → Type 0) (xs : List ℕ) (q : ℕ) → AllByRecursion P xs → AnyByRecursion (λ x. x ≡ q) xs → P q
   any_of P [] q h m = absurd m
   any_of P (x ∷ xs) q h (inl e) = subst P e h.0
   any_of P (x ∷ xs) q h (inr m) = any_of P xs q h.1 m

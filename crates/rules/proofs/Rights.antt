@@ -6,7 +6,10 @@ use Rattle.rules.specs.Catalogues.{Meaning, SoundMeaning}
 use Rattle.rules.specs.Sheets.{Limits, limit_of, order_of}
 use Rattle.rules.specs.Choices.{Told, TrueAt, part_choices}
 use Rattle.rules.specs.Openings.{Faultless}
-use Rattle.rules.specs.Grounds.{Ground, Learnable, Setting, SoundSetting}
+use Rattle.rules.specs.Bounds.{greatest_amount}
+use Rattle.rules.specs.Grounds.{Ground, Learnable, Setting, SoundSetting, WellFormed}
+use Rattle.rules.proofs.Shapes.{learnable_shaped}
+use Rattle.rules.proofs.Invariant.{Invariant}
 use Rattle.rules.specs.Search.{ended}
 use Rattle.rules.specs.Calls.{Finding, Job, closed, filled, least, nothing, running, unfinished, when_ended}
 use Rattle.rules.specs.Histories.{Entry, History, began_with, called, learned_of, limits_of, opened, steps_run}
@@ -18,6 +21,7 @@ use Rattle.rules.proofs.CallHistories.{FoundRight, Counted, Kept, invariant, cou
 use Rattle.rules.proofs.ByPlace.{none_by_place, cheapest_by_place, closes_by_place, closes_under, sound_setting, setting_versions, amounts_near, true_by_place, best_by_place_keeps}
 use Rattle.rules.proofs.Counts.{counts_agree}
 use Rattle.rules.proofs.ClosingShapes.{shape_told}
+use Rattle.rules.proofs.EndSaid.{end_said, end_told, held_reported}
 
 module _ (m : Meaning) (w : SoundMeaning m) (s : Sheet) (f : Faultless m s) where
   abbrev S : Setting
@@ -44,7 +48,7 @@ module _ (m : Meaning) (w : SoundMeaning m) (s : Sheet) (f : Faultless m s) wher
   steps_right : (began : List Ground) (es : List Entry) (j : Job) → Kept S began es j → FewSteps m s es j × StepsNamed m s began j
   steps_right b es (closed L gs None) h = (tt, tt)
   steps_right b es (closed L gs (Some v)) h = (few es v.steps h.2.0, tt)
-  steps_right b es (running L σ) h = (few es σ.steps (counted S W L b es σ h), h.2)
+  steps_right b es (running L σ) h = (few es σ.steps (counted S W L b es σ h), ((let i : Invariant S W L σ = invariant S W L b es σ h in i.proper), h.2))
 
   right : {es : List Entry} {j : Job} (h : History S (limit_of s) es j) → Right m s h
   right {es} {j} h =
@@ -56,9 +60,13 @@ module _ (m : Meaning) (w : SoundMeaning m) (s : Sheet) (f : Faultless m s) wher
         limits = all_limits S h;
         saying = says_true b es j k;
         shape = shape_told m s W (amounts_near m w s f) h;
+        end_said = end_said m s f.some_place h;
+        end_told = end_told m s f.some_place h;
         few_steps = n.0;
+        held = held_reported S h;
         steps_named = n.1;
         budget = last_budget S h;
+        formed = All-weaker (Learnable S) (WellFormed S) (λ x l. (learnable_shaped S W greatest_amount (amounts_near m w s f) l).0) (learned_of j) g.0;
         grounds = All-weaker (Learnable S) (TrueGround m s) (λ x l. true_by_place m w s f x (learnable_sound S W l)) (learned_of j) g.0;
         space = g.1;
       }

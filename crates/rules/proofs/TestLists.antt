@@ -4,7 +4,7 @@ use Rattle.std.specs.List.{AllByRecursion}
 use Rattle.std.proofs.ByRecursion.{All-append}
 use Rattle.std.proofs.lemmas.Bool.{and_parts, and_from, or_cases, or_left, or_right, eqb-true, eq-eqb, cases_lt, cond-true}
 use Rattle.rules.specs.declared.refusals.Fault.{Fault}
-use Rattle.rules.specs.Sheets.{Any}
+use Rattle.rules.specs.Sheets.{AnyByRecursion}
 use Rattle.rules.specs.Openings.{each_to, test, contains, contains_all, first_fault}
 
 -- a test finds nothing
@@ -52,26 +52,26 @@ module _ {A : Type 0} (P : A → Type 0) where
   each_all f zero h = tt
   each_all f (suc k) h = All-append P (each_to f k) (f (suc k)) (each_all f k (λ q a b. h q a (omega arith))) (h (suc k) (omega arith) (omega arith))
 
-pub contains_any : (q : ℕ) (xs : List ℕ) → contains q xs ≡ true → Any (λ x. x ≡ q) xs
+pub contains_any : (q : ℕ) (xs : List ℕ) → contains q xs ≡ true → AnyByRecursion (λ x. x ≡ q) xs
 contains_any q [] h = let z : ◌≡◌ {A = ℕ} 0 1 = cc in absurd (omega (arith, z))
 contains_any q (x ∷ xs) h = elim (or_cases (eqb x q) (contains q xs) h) [ inl e ↦ inl (eqb-true x q e) | inr e ↦ inr (contains_any q xs e) ]
 
-pub any_contains : (q : ℕ) (xs : List ℕ) → Any (λ x. x ≡ q) xs → contains q xs ≡ true
+pub any_contains : (q : ℕ) (xs : List ℕ) → AnyByRecursion (λ x. x ≡ q) xs → contains q xs ≡ true
 any_contains q [] h = absurd h
 any_contains q (x ∷ xs) (inl e) = or_left (eqb x q) (contains q xs) (eq-eqb x q e)
 any_contains q (x ∷ xs) (inr h) = or_right (eqb x q) (contains q xs) (any_contains q xs h)
 
 -- each number up to one is in a list that contains all of them
-pub all_contained : (n : ℕ) (xs : List ℕ) → contains_all n xs ≡ true → (q : ℕ) → 1 ≤ q → q ≤ n → Any (λ x. x ≡ q) xs
+pub all_contained : (n : ℕ) (xs : List ℕ) → contains_all n xs ≡ true → (q : ℕ) → 1 ≤ q → q ≤ n → AnyByRecursion (λ x. x ≡ q) xs
 all_contained zero xs h q a b = absurd (omega arith)
 all_contained (suc n) xs h q a b =
     let p = and_parts (contains_all n xs) (contains (suc n) xs) h in
     elim (cases_lt n q) [
-      | inl l ↦ let e : suc n ≡ q = omega arith in subst (λ y. Any (λ x. x ≡ y) xs) e (contains_any (suc n) xs p.1)
+      | inl l ↦ let e : suc n ≡ q = omega arith in subst (λ y. AnyByRecursion (λ x. x ≡ y) xs) e (contains_any (suc n) xs p.1)
       | inr l ↦ all_contained n xs p.0 q a l
     ]
 
-pub contained_all : (n : ℕ) (xs : List ℕ) → ((q : ℕ) → 1 ≤ q → q ≤ n → Any (λ x. x ≡ q) xs) → contains_all n xs ≡ true
+pub contained_all : (n : ℕ) (xs : List ℕ) → ((q : ℕ) → 1 ≤ q → q ≤ n → AnyByRecursion (λ x. x ≡ q) xs) → contains_all n xs ≡ true
 contained_all zero xs h = refl
 contained_all (suc n) xs h =
     and_from (contains_all n xs) (contains (suc n) xs) (contained_all n xs (λ q a b. h q a (omega arith))) (any_contains (suc n) xs (h (suc n) (omega arith) (omega arith)))

@@ -152,7 +152,7 @@ module _ (S : Setting) where
   since : (L : Limits) (before : List Entry) (i : Job) → History S L before i → (cs : List Entry) {es : List Entry} {k : Job} → History S L es k → es ≡ cs ++ before → {fs : List Entry} {l : Job} → Leads k fs l → Leads i (reverse cs ++ fs) l
   since L before i h [] {es} {k} g e {fs} {l} t =
       let as_played : record { entries = es; job = k } ≡ record { entries = before; job = i } =
-          (history_law S L).is_played es k g ∙ ap (λ xs. play S (unplayed L) (reverse (map (λ x. x.call) xs))) e ∙ sym ((history_law S L).is_played before i h)
+      (history_law S L).is_played es k g ∙ ap (λ xs. play S (unplayed L) (reverse (map (λ x. x.call) xs))) e ∙ sym ((history_law S L).is_played before i h)
       in
       subst (λ j. Leads j fs l) (ap (λ p. p.job) as_played) t
   since L before i h (x ∷ cs) opened e t = absurd (cc)

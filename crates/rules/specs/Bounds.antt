@@ -1,5 +1,5 @@
 -- Every bound of the rules, once. Assumes nothing.
-use Rattle.std.specs.Prelude.{ℕ, ◌^◌}
+use Rattle.std.specs.Prelude.{ℕ, suc, ◌^◌}
 
 -- A job, and the meaning of a catalogue, has at most so many places.
 abbrev pub most_places : ℕ
@@ -15,7 +15,7 @@ greatest_row = 8
 
 -- A catalogue has at most so many rows, the price among them.
 abbrev pub most_rows : ℕ
-most_rows = 9
+most_rows = suc greatest_row
 
 -- No amount in the meaning of a catalogue, and no unit, lies further from 0 than this.
 abbrev pub amount_reach : ℕ

@@ -2,7 +2,7 @@
 use Rattle.std.specs.Prelude.{◌≡◌, ℕ, ◌-◌, ◌<◌, ◌≤◌, Bool, if◌then◌else◌, ◌&&◌, ℤ, pos, ◌+ℤ◌, ◌*ℤ◌, Some, None, Option, nat_le, nat_lt, unsigned_abs}
 use Rattle.rules.specs.Bounds.{most_places, most_rows, most_versions, amount_reach}
 
--- The meaning of a catalogue. Places and versions are numbered from 1, rows from 0.
+-- The meaning of a catalogue, its places and versions numbered from 1 and its rows from 0.
 pub record Meaning : Type 0 where
   pub places : ℕ
   pub rows : ℕ

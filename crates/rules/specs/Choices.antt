@@ -78,7 +78,7 @@ module _ (m : Meaning) (s : Sheet) where
   BestKeeps L None = Unit {0}
   BestKeeps L (Some c) = Choice m s c × Keeps m s L c
 
-  -- What is said is true at these limits. The choice named is the cheapest, and the closing ground closes the limits with the cap one under its price; or there is no choice, and the closing ground closes the limits; or the search has not ended, and its best choice keeps them.
+  -- What is said is true at these limits: the choice named is the cheapest, or there is none, and in both cases the closing ground closes the limits, with the cap one under a price named; or the best choice of a search that has not ended keeps them.
   abbrev pub TrueAt : Limits → Told → Type 0
   TrueAt L (says_least c g) = Cheapest m s L c × Closes m s (capped L (price m s c -ℤ pos 1)) g
   TrueAt L (says_none g) = NoChoice m s L × Closes m s L g

@@ -1,5 +1,5 @@
 -- Worked examples of the rules. Assumes nothing.
-use Rattle.std.specs.Prelude.{◌≡◌, ℕ, ◌-◌, Bool, true, false, List, [], ◌∷◌, ℤ, pos, negsuc, Ok, Result, Some, Option, slice_index_or}
+use Rattle.std.specs.Prelude.{◌≡◌, ℕ, ◌-◌, Bool, true, false, List, [], ◌∷◌, ℤ, pos, negsuc, Ok, Result, replicate, Some, Option, slice_index_or}
 use Rattle.std.specs.List.{AllByRecursion}
 use Rattle.rules.specs.declared.lines.Line.{Line}
 use Rattle.rules.specs.declared.lines.ClosingLine.{ClosingLine}
@@ -8,7 +8,8 @@ use Rattle.rules.specs.declared.refusals.Fault.{Fault}
 use Rattle.rules.specs.declared.sheets.Sheet.{Sheet}
 use Rattle.rules.specs.Joinings.{greatest_at_most}
 use Rattle.rules.specs.Catalogues.{Meaning, rung}
-use Rattle.rules.specs.Choices.{Told, says_least, says_none}
+use Rattle.rules.specs.Sheets.{blank_row}
+use Rattle.rules.specs.Choices.{Told, says_least, says_none, price}
 use Rattle.rules.specs.Grounds.{line_stands, kept}
 use Rattle.rules.specs.Settings.{setting, Seen}
 use Rattle.rules.specs.KeptJobs.{verdict_told}
@@ -41,7 +42,7 @@ alarm_catalogue =
 -- Cap 1,000, and at least 60 in row 1; the phone gives way first.
 abbrev pub alarm_sheet : Sheet
 alarm_sheet =
-    record { places = 2; last_row = 1; cap = pos 1000; rows = record { kind = 2; limit = pos 60 } ∷ []; order = 1 ∷ 2 ∷ [] }
+    record { places = 2; last_row = 1; cap = pos 1000; rows = record { kind = 2; limit = pos 60 } ∷ replicate 7 blank_row; order = 1 ∷ 2 ∷ replicate 14 0 }
 
 -- One place with one version, at price 5.
 abbrev pub single_catalogue : Meaning
@@ -49,7 +50,7 @@ single_catalogue = record { places = 1; rows = 1; versions = λ q. 1; amount = �
 
 -- One place, and no limit but the cap.
 abbrev pub single_sheet : ℤ → Sheet
-single_sheet cap = record { places = 1; last_row = 0; cap = cap; rows = []; order = 1 ∷ [] }
+single_sheet cap = record { places = 1; last_row = 0; cap = cap; rows = replicate 8 blank_row; order = 1 ∷ replicate 15 0 }
 
 -- A record that asks for a call by its code, row and number, not answered yet.
 abbrev pub asks : ℕ → ℕ → ℤ → CallRecord
@@ -115,8 +116,18 @@ examples =
     }
     -- phones and batteries: price 130 with versions 1 and 2; and then, with the limit of row 1 at 50, price 100 with versions 2 and 2
     ∷ record {
-      worked = verdict_after alarm_catalogue alarm_sheet (whole_search []) ∷ verdict_after alarm_catalogue alarm_sheet (whole_search (asks 1 1 (pos 50) ∷ whole_search [])) ∷ [];
-      stated = seen_as (says_least (1 ∷ 2 ∷ []) (closing 0 (pos 130) ∷ closing 1 (pos 50) ∷ [])) 9 3 ∷ seen_as (says_least (2 ∷ 2 ∷ []) (closing 0 (pos 100) ∷ [])) 11 6 ∷ [];
+      worked =
+          verdict_after alarm_catalogue alarm_sheet (whole_search [])
+          ∷ amount (price alarm_catalogue alarm_sheet (1 ∷ 2 ∷ []))
+          ∷ verdict_after alarm_catalogue alarm_sheet (whole_search (asks 1 1 (pos 50) ∷ whole_search []))
+          ∷ amount (price alarm_catalogue alarm_sheet (2 ∷ 2 ∷ []))
+          ∷ [];
+      stated =
+          seen_as (says_least (1 ∷ 2 ∷ []) (closing 0 (pos 130) ∷ closing 1 (pos 50) ∷ [])) 9 3
+          ∷ amount (pos 130)
+          ∷ seen_as (says_least (2 ∷ 2 ∷ []) (closing 0 (pos 100) ∷ [])) 11 6
+          ∷ amount (pos 100)
+          ∷ [];
     }
     ∷ []
 

@@ -5,7 +5,7 @@ use Rattle.rules.specs.declared.lines.Line.{Line}
 use Rattle.rules.specs.Joinings.{Joining, Laws, onto, sum_at_most}
 use Rattle.rules.specs.Sheets.{Limits}
 
--- What is searched: a catalogue seen through an order. Places go by their position; position 1 gives way first.
+-- What is searched: a catalogue seen through an order, in which places go by their position and position 1 gives way first.
 pub record Setting : Type 0 where
   pub places : ℕ
   -- rows are numbered from 0, the price, to this

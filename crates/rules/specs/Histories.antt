@@ -1,10 +1,10 @@
 -- What comes about on a job, call after call, and what can be read off the calls and their answers. Assumes nothing.
-use Rattle.std.specs.Prelude.{◌≡◌, ℕ, ◌+◌, ◌<◌, ◌⊎◌, List, [], ◌∷◌, pos, negsuc, None}
+use Rattle.std.specs.Prelude.{◌≡◌, ℕ, ◌+◌, ◌<◌, ◌⊎◌, List, [], ◌∷◌, pos, negsuc, Some, None, Option}
 use Rattle.rules.specs.Sheets.{Limits}
 use Rattle.rules.specs.Choices.{changed}
 use Rattle.rules.specs.Grounds.{Setting, Ground}
 use Rattle.rules.specs.Search.{Ended, Full}
-use Rattle.rules.specs.Calls.{Job, closed, running, Call, change, clear, begin_search, close, run, Answer, taken, ran, refused, Does, reply}
+use Rattle.rules.specs.Calls.{Job, closed, running, Call, change, clear, begin_search, close, run, Why, Answer, taken, ran, refused, Does, reply}
 
 -- A call with its answer.
 pub record Entry : Type 0 where
@@ -73,6 +73,21 @@ count taken (run b) k = k
 abbrev pub steps_run : List Entry → ℕ
 steps_run [] = 0
 steps_run (e ∷ es) = count e.answer e.call (steps_run es)
+
+-- Why the last run of the last search stopped, after a call more: a run says it anew, and a search that begins has none.
+abbrev pub why_after : Answer → Call → Option Why → Option Why
+why_after (ran w m) c o = Some w
+why_after (refused e) c o = o
+why_after taken begin_search o = None
+why_after taken (change row limit) o = o
+why_after taken clear o = o
+why_after taken close o = o
+why_after taken (run b) o = o
+
+-- Why the last run of the last search stopped, as it answered.
+abbrev pub last_why : List Entry → Option Why
+last_why [] = None
+last_why (e ∷ es) = why_after e.answer e.call (last_why es)
 
 -- The learned grounds with which the last search began, after a call more: a search that is taken begins with those that the job holds.
 abbrev pub grounds_after : Answer → Job → Call → List Ground → List Ground

@@ -11,7 +11,7 @@ pub record Joining : Type 0 where
   pub join : ℤ → ℤ → ℤ
   pub worse : ℤ → ℤ → Bool
 
--- What every joining keeps; grounds and searches rest on these laws alone.
+-- What every joining keeps; grounds and searches rest on these laws alone, and, in row 0, on its kind.
 pub record Laws (J : Joining) : Type 0 where
   -- grouping and order don't matter
   pub assoc : (a b c : ℤ) → J.join (J.join a b) c ≡ J.join a (J.join b c)

@@ -3,7 +3,6 @@ use Rattle.std.specs.Prelude.{◌≡◌, ℕ, if◌then◌else◌, ◌&&◌, Lis
 use Rattle.std.specs.List.{AllByRecursion}
 use Rattle.rules.specs.declared.records.CallRecord.{CallRecord}
 use Rattle.rules.specs.declared.records.Request.{Request}
-use Rattle.rules.specs.declared.refusals.Fault.{Fault}
 use Rattle.rules.specs.declared.refusals.Refusal.TheVariants.{NoCall}
 use Rattle.rules.specs.declared.sheets.Sheet.{Sheet}
 use Rattle.rules.specs.Refusals.{refusal_number}

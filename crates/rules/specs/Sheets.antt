@@ -42,10 +42,10 @@ abbrev pub order_of : Sheet → List ℕ
 order_of s = take s.places s.order
 
 -- Some element of a list has a property.
-abbrev pub Any : {X : Type 0} → (X → Type 0) → List X → Type 0
-Any P [] = ⊥
-Any P (x ∷ xs) = P x ⊎ Any P xs
+abbrev pub AnyByRecursion : {X : Type 0} → (X → Type 0) → List X → Type 0
+AnyByRecursion P [] = ⊥
+AnyByRecursion P (x ∷ xs) = P x ⊎ AnyByRecursion P xs
 
 -- The order lists each place at one position: it is as long as there are places, and each place is in it.
 abbrev pub EachOnce : ℕ → List ℕ → Type 0
-EachOnce n order = (length order ≡ n) × ((q : ℕ) → 1 ≤ q → q ≤ n → Any (λ x. x ≡ q) order)
+EachOnce n order = (length order ≡ n) × ((q : ℕ) → 1 ≤ q → q ≤ n → AnyByRecursion (λ x. x ≡ q) order)

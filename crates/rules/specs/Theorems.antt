@@ -1,14 +1,16 @@
 -- The theorems on the rules; each is the contract of a function. Assumes nothing.
-use Rattle.std.specs.Prelude.{◌≡◌, ℕ, ◌≤◌, false, List, [], map, reverse, None}
-use Rattle.std.specs.List.{AllByRecursion}
+use Rattle.std.specs.Prelude.{◌≡◌, ℕ, ◌≤◌, false, List, [], length, map, reverse, Some, None, ◌≢◌}
+use Rattle.std.specs.List.{AllByRecursion, AllPairs, Contains}
 use Rattle.rules.specs.declared.lines.Line.{Line}
 use Rattle.rules.specs.declared.records.CallRecord.{CallRecord}
+use Rattle.rules.specs.declared.refusals.Fault.{Fault}
 use Rattle.rules.specs.declared.refusals.Refusal.{Refusal}
 use Rattle.rules.specs.declared.sheets.Sheet.{Sheet}
 use Rattle.rules.specs.Catalogues.{Meaning, SoundMeaning}
-use Rattle.rules.specs.Sheets.{Limits, limit_of, Any}
-use Rattle.rules.specs.Openings.{opening, Faultless}
-use Rattle.rules.specs.Grounds.{Setting, SoundSetting, Part, Ground, Learnable, Ordered, open_places, moved, learn_from}
+use Rattle.rules.specs.Sheets.{Limits, limit_of, order_of, AnyByRecursion}
+use Rattle.rules.specs.Choices.{part_choices}
+use Rattle.rules.specs.Openings.{opening, Faultless, FaultFound}
+use Rattle.rules.specs.Grounds.{Setting, SoundSetting, Part, Ground, Learnable, Ordered, Proper, open_places, moved, learn_from}
 use Rattle.rules.specs.Search.{State, Outcome, Named, next}
 use Rattle.rules.specs.Calls.{Job, Call, Answer, refused, Does, reply}
 use Rattle.rules.specs.Histories.{Entry, History, unplayed, play}
@@ -49,17 +51,33 @@ Replaces S l k = (l.row ≡ k.row) × (l.level ≡ k.level) × ((S.joining l.row
 -- What a ground has in it that is learned after t from a ground for each version there: the moved lines of those grounds, and of two at one place the one whose constant isn't worse.
 pub record Learned (S : Setting) (t : Part) (pick : ℕ → Ground) (g : Ground) : Type 0 where
   pub ordered : Ordered g
-  pub taken_over : AllByRecursion (λ l. (v : ℕ) × (1 ≤ v) × (v ≤ S.versions (open_places S t)) × Any (λ k. l ≡ moved S t v k) (pick v)) g
-  pub replaced : (v : ℕ) → 1 ≤ v → v ≤ S.versions (open_places S t) → AllByRecursion (λ k. Any (λ l. Replaces S l (moved S t v k)) g) (pick v)
+  pub taken_over : AllByRecursion (λ l. (v : ℕ) × (1 ≤ v) × (v ≤ S.versions (open_places S t)) × AnyByRecursion (λ k. l ≡ moved S t v k) (pick v)) g
+  pub replaced : (v : ℕ) → 1 ≤ v → v ≤ S.versions (open_places S t) → AllByRecursion (λ k. AnyByRecursion (λ l. Replaces S l (moved S t v k)) g) (pick v)
 
 -- A ground is learned from grounds over the setting's rows as the rules say.
 abbrev pub LearningLaw : Type 0
 LearningLaw =
     (S : Setting) → SoundSetting S → (t : Part) (pick : ℕ → Ground) → ((v : ℕ) → 1 ≤ v → v ≤ S.versions (open_places S t) → AllByRecursion (λ l. l.row ≤ S.last_row) (pick v)) → Learned S t pick (learn_from S t pick)
 
--- An opening finds a fault exactly when there is one.
+-- A list of all part-choices, each once, is as long as is counted.
+pub record AllCounted (m : Meaning) (s : Sheet) (ps : List Part) : Type 0 where
+  pub proper : AllByRecursion (Proper (setting m s)) ps
+  pub each : (c : Part) → Proper (setting m s) c → Contains ps c
+  pub once : AllPairs (λ c d. c ≢ d) ps
+  pub counted : length ps ≡ part_choices m (order_of s)
+
+-- The part-choices stand in such a list.
+abbrev pub CountLaw : Type 0
+CountLaw = (m : Meaning) → SoundMeaning m → (s : Sheet) → Faultless m s → (ps : List Part) × AllCounted m s ps
+
+-- An opening finds no fault exactly when there is none, and else that of the first test that fails.
 abbrev pub OpeningLaw : Type 0
-OpeningLaw = (m : Meaning) (s : Sheet) → (opening m s ≡ None → Faultless m s) × (Faultless m s → opening m s ≡ None)
+OpeningLaw =
+    (m : Meaning) (s : Sheet) →
+    record {
+      none : (opening m s ≡ None → Faultless m s) × (Faultless m s → opening m s ≡ None);
+      first : (f : Fault) → (opening m s ≡ Some f → FaultFound m s f) × (FaultFound m s f → opening m s ≡ Some f);
+    }
 
 -- With every catalogue that keeps its bounds and every sheet with which a job opens without fault, along every history of calls, what is promised holds at every time.
 abbrev pub PromiseLaw : Type 0
@@ -73,6 +91,6 @@ RecordLaw =
     record {
       opens : CameBy m s [] (opened_with s (opening m s));
       carries :
-        (before : List Entry) (k : KeptJob) → CameBy m s before k → (rs : List CallRecord) →
-        Lawful m s before (all_answered (setting m s) k rs) (job_after_all (setting m s) k rs) × (requests (all_answered (setting m s) k rs) ≡ requests rs);
+          (before : List Entry) (k : KeptJob) → CameBy m s before k → (rs : List CallRecord) →
+          Lawful m s before (all_answered (setting m s) k rs) (job_after_all (setting m s) k rs) × (requests (all_answered (setting m s) k rs) ≡ requests rs);
     }

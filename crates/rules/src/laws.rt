@@ -1,6 +1,6 @@
 // What is proved of the rules: each function has a theorem for its contract, and answers nothing.
 ghost use Rattle.rules.specs.Examples.{ExamplesHold};
-ghost use Rattle.rules.specs.Theorems.{StepLaw, CallLaw, HistoryLaw, GroundLaw, LearningLaw, OpeningLaw, RefusalLaw, PromiseLaw, RecordLaw};
+ghost use Rattle.rules.specs.Theorems.{StepLaw, CallLaw, HistoryLaw, GroundLaw, LearningLaw, CountLaw, OpeningLaw, RefusalLaw, PromiseLaw, RecordLaw};
 
 // At every state the rules name one outcome, which `next` works out.
 pub fn step_law()
@@ -32,7 +32,12 @@ pub fn learning_law()
     ensures { LearningLaw }
 {}
 
-// An opening finds a fault exactly when there is one.
+// There are as many part-choices as are counted.
+pub fn count_law()
+    ensures { CountLaw }
+{}
+
+// An opening finds no fault exactly when there is none, and else that of the first test that fails.
 pub fn opening_law()
     ensures { OpeningLaw }
 {}

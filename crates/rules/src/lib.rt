@@ -17,11 +17,11 @@ pub use bounds::{
 };
 pub use kinds::Kind;
 pub use laws::{
-    call_law, ground_law, history_law, learning_law, opening_law, promise_law, record_law,
-    refusal_law, step_law, worked_examples,
+    call_law, count_law, ground_law, history_law, learning_law, opening_law, promise_law,
+    record_law, refusal_law, step_law, worked_examples,
 };
 pub use lines::{ClosingLine, Line};
 pub use numbers::number_at;
 pub use records::{CallRecord, Request};
 pub use refusals::{Fault, Refusal};
-pub use sheets::{Row, Sheet};
+pub use sheets::{Row, Sheet, lists_each};

@@ -26,9 +26,9 @@ pub enum Refusal {
     LimitBeyond = 8,
     // The order doesn't list each place once.
     OrderNotOnce = 9,
-    // A place comes out of turn or lies above the number of places, or there is no such position.
+    // A place comes out of turn or lies above the number of places.
     PlaceOutOfTurn = 10,
-    // A place has one version too many, or a ladder none or too many; or there can be no such version.
+    // A place has one version too many, or a ladder none or too many.
     VersionsOutside = 11,
     // The catalogue has other counts of places or rows than the sheet.
     CountsDiffer = 12,

@@ -1,4 +1,7 @@
 // Sheets: what is asked of a set.
+ghost use Rattle.std.specs.Prelude.{◌≡◌};
+ghost use Rattle.rules.specs.Openings.{contains_all};
+
 use crate::bounds::{GREATEST_ROW, MOST_PLACES};
 
 // A row other than the price: the number of its kind, and its limit. The number stays plain, since one that stands for
@@ -22,4 +25,11 @@ pub struct Sheet {
     pub rows: [Row; GREATEST_ROW],
     // The places, the one that gives way first at the front; those past the number of places are not read.
     pub order: [u8; MOST_PLACES],
+}
+
+// Whether an order lists each place from 1 up to a number.
+pub fn lists_each(places: u8, order: &[u8]) -> bool
+    ensures { result ≡ contains_all places order.now }
+{
+    (1..=places).all(|place| order.contains(&place))
 }

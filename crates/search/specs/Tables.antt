@@ -1,5 +1,5 @@
 -- How the tables of a grid are read, and what they keep. Assumes nothing.
-use Rattle.std.specs.Prelude.{◌≡◌, ℕ, ◌-◌, ◌<◌, ◌≤◌, Bool, if◌then◌else◌, ◌&&◌, List, [], length, ℤ, pos, nat_le, slice_index_or, slice_set, unsigned_abs}
+use Rattle.std.specs.Prelude.{◌≡◌, ℕ, ◌-◌, ◌<◌, ◌≤◌, Bool, if◌then◌else◌, ◌&&◌, List, [], length, ℤ, pos, nat_le, slice_index_or, unsigned_abs}
 use Rattle.rules.specs.Bounds.{most_places, most_versions, most_rows, greatest_amount}
 use Rattle.search.specs.declared.position.Amounts.{Amounts}
 use Rattle.search.specs.declared.position.Position.{Position}
@@ -43,19 +43,3 @@ Wide ps = (i j : ℕ) → (i < most_places) × (j < most_versions) → length (s
 -- No amount lies further from 0 than it may.
 abbrev pub Near : List Position → Type 0
 Near ps = (i j r : ℕ) → unsigned_abs (slot ps i j r) ≤ greatest_amount
-
--- The amounts with another one for a row.
-abbrev pub put_row : Amounts → ℕ → ℤ → Amounts
-put_row a r z = record { rows = slice_set a.rows r z }
-
--- A position with other amounts for the version at an index.
-abbrev pub put_version : Position → ℕ → Amounts → Position
-put_version p j a = record { count = p.count; versions = slice_set p.versions j a }
-
--- A position with another count.
-abbrev pub put_count : Position → ℕ → Position
-put_count p n = record { count = n; versions = p.versions }
-
--- The positions with another amount in a slot.
-abbrev pub put_slot : List Position → ℕ → ℕ → ℕ → ℤ → List Position
-put_slot ps i j r z = slice_set ps i (put_version (slice_index_or ps i no_position) j (put_row (slice_index_or (slice_index_or ps i no_position).versions j no_amounts) r z))

@@ -8,7 +8,7 @@ use crate::position::Position;
 use rules::{Kind, MOST_PLACES, MOST_ROWS};
 
 // What is chosen from, by position: the kinds of the rows, and how many versions each position has, with their amounts.
-// Whole arrays: a kind or an amount may be set past the last row or past the versions of its position, and no position comes or goes.
+// Whole arrays: a grid is made at once and nothing comes or goes, and where the catalogue has no amount it has 0.
 #[derive(Drop)]
 pub struct Grid {
     places: usize,

@@ -46,7 +46,7 @@ amount_text (Some a) = codes " " ++ signed_decimal a
 amount_text None = codes " -"
 
 module _ (m : Meaning) where
-  -- The line of a version: its amounts, a row after the other. Closed to the proofs of the texts that are made of such lines.
+  -- The line of a version, its amounts one row after the other, closed to the proofs of texts made of such lines.
   unfoldable pub version_text : ℕ → ℕ → List ℕ
   version_text q v =
       codes "PLACE " ++ decimal q ++ codes " VERSION " ++ decimal v ++ codes " AMOUNTS" ++

@@ -1,10 +1,10 @@
 // What a job is asked.
 ghost use Rattle.std.specs.Prelude.{◌≡◌, IfOk, IfSome};
-ghost use Rattle.chooser.specs.Models.{kept_closed, kept_running};
+ghost use Rattle.chooser.specs.Models.{kept_closed};
 ghost use Rattle.chooser.specs.Verdicts.{verdict_in, PricesRight};
 ghost use Rattle.rules.specs.KeptJobs.{fault_of, limit_told, verdict_told};
 
-use crate::jobs::{ClosedJob, RunningJob};
+use crate::jobs::ClosedJob;
 use crate::verdicts::{Seen, seen};
 use catalogue::Catalogue;
 use rules::{Fault, Refusal};
@@ -42,18 +42,6 @@ impl<C: Catalogue> ClosedJob<C> {
                 Ok(verdict.map(|verdict| seen(&self.sheet, &self.catalogue, verdict)))
             }
             Err(fault) => Err(*fault),
-        }
-    }
-}
-
-impl<C: Catalogue> RunningJob<C> {
-    // The fault of the opening, if it found one.
-    pub fn fault(&self) -> Option<Fault>
-        ensures { result ≡ fault_of (kept_running self.now.opened) }
-    {
-        match &self.opened {
-            Ok(_) => None,
-            Err(fault) => Some(*fault),
         }
     }
 }

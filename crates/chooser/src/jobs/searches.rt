@@ -2,7 +2,7 @@
 ghost use Rattle.std.specs.Prelude.{◌≡◌};
 ghost use Rattle.rules.specs.Calls.{begin_search, run as run_call, close as close_call};
 ghost use Rattle.rules.specs.Settings.{setting};
-ghost use Rattle.rules.specs.KeptJobs.{told_on, job_by};
+ghost use Rattle.rules.specs.KeptJobs.{fault_of, told_on, job_by};
 ghost use Rattle.chooser.specs.Models.{kept_closed, kept_running, taken_told, ran_told};
 
 use crate::jobs::{ClosedJob, RunningJob};
@@ -45,6 +45,16 @@ impl<C: Catalogue> ClosedJob<C> {
 }
 
 impl<C: Catalogue> RunningJob<C> {
+    // The fault of the opening, if it found one.
+    pub fn fault(&self) -> Option<Fault>
+        ensures { result ≡ fault_of (kept_running self.now.opened) }
+    {
+        match &self.opened {
+            Ok(_) => None,
+            Err(fault) => Some(*fault),
+        }
+    }
+
     // Makes steps until the search has ended, is full, or the budget is used.
     pub fn run(&mut self, budget: i32) -> Result<Ran, Fault>
         ensures told { ran_told result ≡ told_on (setting (C.Catalogue.meaning self.old.catalogue) self.old.sheet) (kept_running self.old.opened) (run_call budget) }

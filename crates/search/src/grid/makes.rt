@@ -2,13 +2,13 @@
 ghost use Rattle.std.specs.Prelude.{◌≡◌, ◌+◌};
 ghost use Rattle.rules.specs.Settings.{place_at, amount_in, setting as setting_of};
 ghost use Rattle.search.specs.Settings.{setting};
-ghost use Rattle.search.specs.Made.{kind_at, amounts_in, position_in};
+ghost use Rattle.search.specs.Made.{kind_at, kinds_in, amounts_in, position_in, positions_in};
 
 use crate::grid::Grid;
 use crate::position::{Amounts, Position};
 use catalogue::Catalogue;
 use opening::Checked;
-use rules::{Kind, Row};
+use rules::{Kind, MOST_PLACES, MOST_ROWS, Row};
 use std::array;
 
 // The kind of a row, in a table that begins with row 1. A number that stands for none, as there may be past the last row, is read
@@ -22,6 +22,13 @@ fn kind_at(rows: &[Row], row: usize) -> Kind
     }
 }
 
+// The kinds of the rows, in a table that begins with row 1.
+fn kinds_in(rows: &[Row]) -> [Kind; MOST_ROWS]
+    ensures { result ≡ kinds_in rows.now }
+{
+    array::from_fn(|row| kind_at(rows, row))
+}
+
 // The place at an index of an order, that of position 1 being at 0, and 0 past the last.
 fn place_at(order: &[u8], index: usize) -> u8
     ensures { result ≡ place_at order.now (index + 1) }
@@ -33,7 +40,7 @@ fn place_at(order: &[u8], index: usize) -> u8
 fn amount_in<C: Catalogue>(checked: &Checked<'_, C>, row: u8, place: u8, version: u8) -> i32
     ensures { result ≡ amount_in (C.Catalogue.meaning checked.now.catalogue.now) row place version }
 {
-    let amount = checked.catalogue().amount(row, place, version);
+    let amount = checked.catalogue.amount(row, place, version);
     amount.unwrap_or(0) as i32
 }
 
@@ -51,9 +58,18 @@ fn position_in<C: Catalogue>(checked: &Checked<'_, C>, place: u8) -> Position
     ensures { result ≡ position_in (C.Catalogue.meaning checked.now.catalogue.now) place }
 {
     Position {
-        count: checked.catalogue().versions(place).unwrap_or(0),
+        count: checked.catalogue.versions(place).unwrap_or(0),
         versions: array::from_fn(|index| amounts_in(checked, place, index as u8 + 1)),
     }
+}
+
+// What can be chosen at each position.
+fn positions_in<C: Catalogue>(checked: &Checked<'_, C>) -> [Position; MOST_PLACES]
+    ensures { result ≡ positions_in (C.Catalogue.meaning checked.now.catalogue.now) checked.now.sheet.now }
+{
+    let sheet = checked.sheet;
+    let order = &sheet.order[..usize::from(sheet.places)];
+    array::from_fn(|index| position_in(checked, place_at(order, index)))
 }
 
 impl Grid {
@@ -61,14 +77,12 @@ impl Grid {
     pub fn of<C: Catalogue>(checked: &Checked<'_, C>) -> Grid
         ensures { setting result ≡ setting_of (C.Catalogue.meaning checked.now.catalogue.now) checked.now.sheet.now }
     {
-        let sheet = checked.sheet();
-        let rows: &[Row] = &sheet.rows;
-        let order = &sheet.order[..usize::from(sheet.places)];
+        let sheet = checked.sheet;
         Grid {
             places: usize::from(sheet.places),
             last_row: usize::from(sheet.last_row),
-            kinds: array::from_fn(|row| kind_at(rows, row)),
-            positions: array::from_fn(|index| position_in(checked, place_at(order, index))),
+            kinds: kinds_in(&sheet.rows),
+            positions: positions_in(checked),
         }
     }
 }

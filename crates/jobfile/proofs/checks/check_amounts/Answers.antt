@@ -1,7 +1,7 @@
 use Rattle.std.proofs.Common.{◌+◌, arith}
 use borrow.Author.Differences.{ints}
 use Rattle.jobfile.specs.Reading.{amount_fault}
-use Rattle.jobfile.proofs.TestLoops.{rows_more, rows_fail, rows_passed}
+use Rattle.jobfile.proofs.RowTests.{rows_more, rows_fail, rows_passed}
 use Rattle.jobfile.proofs.checks.check_amounts.Goals as goal
 use Rattle.jobfile.proofs.checks.check_amounts.Goals.{else-loop-row-test, then-loop-row-test+else-unsigned_abs-gt-GREATEST_AMOUNT+else-row-last_row}
 

@@ -2,7 +2,7 @@ use Rattle.std.proofs.Common.{◌≡◌, ℕ, ℤ, None}
 use Rattle.rules.specs.Openings.{each_to, first_fault}
 use Rattle.jobfile.specs.Amounts.{Gives}
 use Rattle.jobfile.specs.Reading.{amount_fault}
-use Rattle.jobfile.proofs.TestLoops.{by_row}
+use Rattle.jobfile.proofs.RowTests.{by_row}
 use Rattle.jobfile.proofs.checks.check_amounts.Given as goal
 
 abbrev pub invariant-loop-row : goal.invariant-loop-row

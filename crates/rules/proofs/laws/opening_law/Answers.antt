@@ -1,4 +1,4 @@
-use Rattle.rules.proofs.OpeningTests.{opening_law}
+use Rattle.rules.proofs.FirstFaults.{opening_law}
 use Rattle.rules.proofs.laws.opening_law.Goals as goal
 
 pub returns : goal.returns

@@ -1,4 +1,4 @@
-use Rattle.std.proofs.Common.{◌≡◌, ap, ◌∙◌}
+use Rattle.std.proofs.Common.{ap, ◌∙◌}
 use Rattle.rules.specs.Calls.{running}
 use Rattle.search.specs.States.{limits_of, state_of}
 use Rattle.chooser.proofs.closed.Closed.search.Goals as goal

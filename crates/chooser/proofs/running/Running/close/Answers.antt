@@ -1,4 +1,4 @@
-use Rattle.std.proofs.Common.{◌≡◌, List, ℤ, Some, ap, ◌∙◌}
+use Rattle.std.proofs.Common.{List, ℤ, Some, ap, ◌∙◌}
 use Rattle.ledger.specs.declared.table.Ledger.{Ledger}
 use Rattle.ledger.specs.Model.{held}
 use Rattle.rules.specs.Calls.{Verdict, closed}

@@ -1,9 +1,8 @@
-use Rattle.std.proofs.Common.{◌≡◌, ℕ, ℤ, pos, ◌<◌, ◌^◌, w32, to_z, of_z, FitsSigned, sym, refl, ap, ◌∙◌, subst, arith}
+use Rattle.std.proofs.Common.{◌≡◌, ℕ, pos, w32, to_z, of_z, FitsSigned, sym, refl, ap, ◌∙◌, subst, arith}
 use borrow.Author.Differences.{ints}
 use Rattle.std.specs.Int.{FitsUnsignedBits}
-use Rattle.rules.specs.Calls.{Reply, reply, run}
+use Rattle.rules.specs.Calls.{Reply}
 use Rattle.search.specs.States.{chosen_from, job_limits, state_of}
-use Rattle.chooser.specs.Models.{searched_of}
 use Rattle.chooser.proofs.Budgets.{negative_refused}
 use Rattle.chooser.proofs.running.Running.run.Goals as goal
 

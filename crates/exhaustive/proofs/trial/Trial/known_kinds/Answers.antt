@@ -4,7 +4,8 @@ use Rattle.std.proofs.lemmas.Result.{err_from_is_err_and}
 use Rattle.std.proofs.lemmas.Bool.{and_from}
 use Rattle.rules.specs.declared.refusals.Refusal.TheVariants.{UnknownKind}
 use Rattle.rules.specs.Sheets.{blank_row}
-use Rattle.exhaustive.specs.Trials.{all_first, kind_known}
+use Rattle.exhaustive.specs.Trials.{all_first}
+use Rattle.rules.specs.Openings.{kind_known}
 use Rattle.exhaustive.proofs.KeptRows.{one_fails}
 use Rattle.exhaustive.proofs.trial.Trial.known_kinds.Goals as goal
 

@@ -1,7 +1,7 @@
 use Rattle.std.proofs.Common.{◌+◌, Err, sym, refl, ap, ◌∙◌, ap₂}
 use Rattle.std.proofs.lemmas.Result.{err_from_is_err_and}
+use Rattle.rules.specs.Openings.{after_tests}
 use Rattle.jobfile.specs.declared.fields.Field.TheVariants as field
-use Rattle.jobfile.specs.Reading.{after_tests}
 use Rattle.jobfile.proofs.BodyReads.{body_failed}
 use Rattle.jobfile.proofs.LadderReads.{ladder_tests_are, ladder_read}
 use Rattle.jobfile.proofs.reader.Reader.read_ladder.Goals as goal

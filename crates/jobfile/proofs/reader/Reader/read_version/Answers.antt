@@ -1,7 +1,7 @@
 use Rattle.std.proofs.Common.{get_or, Err, sym, refl, ap, ◌∙◌, ap₂, arith}
 use Rattle.std.proofs.lemmas.Result.{err_from_is_err_and}
+use Rattle.rules.specs.Openings.{after_tests}
 use Rattle.jobfile.specs.declared.fields.Field.TheVariants as field
-use Rattle.jobfile.specs.Reading.{after_tests}
 use Rattle.jobfile.proofs.BodyReads.{body_failed}
 use Rattle.jobfile.proofs.Listings.{found_in_version, version_tests_are}
 use Rattle.jobfile.proofs.VersionReads.{PassedTests, has_version, job_read, still_holds, still_sound}
