@@ -1,5 +1,5 @@
 -- What a catalogue tells of the prices of the choices that a verdict names is what they cost. Assumes nothing.
-use Rattle.std.proofs.Common.{◌≡◌, IfSome, ℤ, List, ℕ, Some, None, Option, sym, refl, ap, ◌∙◌, subst, arith}
+use Rattle.std.proofs.Common.{◌≡◌, IfSome, List, ℕ, Some, None, Option, sym, ap, ◌∙◌, subst, arith}
 use Rattle.std.proofs.Math.Logic.{∥∥₁_map, ∥∥₁_elim}
 use Rattle.std.proofs.Math.IntN.{ℤ_set}
 use Rattle.std.specs.Option.{option_map}
@@ -11,8 +11,8 @@ use Rattle.rules.specs.Choices.{Choice, TrueAt, price, version}
 use Rattle.rules.specs.Openings.{Faultless}
 use Rattle.rules.specs.Grounds.{Ground}
 use Rattle.rules.specs.Calls.{Job, Verdict, closed}
-use Rattle.rules.specs.Histories.{Entry, History, called, limits_of, opened}
-use Rattle.rules.specs.KeptJobs.{CameBy, faultless}
+use Rattle.rules.specs.Histories.{Entry, History, called, opened}
+use Rattle.rules.specs.KeptJobs.{faultless}
 use Rattle.rules.specs.Settings as settings
 use Rattle.rules.specs.Settings.{seen, setting, told}
 use Rattle.rules.specs.Promises.{Right, RightThroughout, by_verdict}

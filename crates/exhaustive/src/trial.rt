@@ -3,8 +3,8 @@ ghost use Rattle.std.specs.Prelude.{◌≡◌, ◌-◌, ◌≤◌, true, false, 
 ghost use Rattle.rules.specs.declared.refusals.Refusal.TheVariants.{CountsDiffer, UnknownKind};
 ghost use Rattle.rules.specs.Bounds.{most_places, greatest_row};
 ghost use Rattle.rules.specs.Sheets.{last_row, kind_of, limit_of};
-ghost use Rattle.rules.specs.Choices.{version, price};
-ghost use Rattle.rules.specs.Settings.{amount_in, versions_in};
+ghost use Rattle.rules.specs.Choices.{price};
+ghost use Rattle.rules.specs.Settings.{versions_in};
 ghost use Rattle.exhaustive.specs.Trials.{guarded, joined, row_kept, all_kept, judged, kinds_known};
 ghost use Rattle.rules.specs.Openings.{counts_same};
 

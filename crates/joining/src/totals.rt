@@ -18,12 +18,7 @@ fn amount_at<C: Catalogue>(catalogue: &C, row: u8, index: u8, versions: &[u8]) -
 
 // The amounts of a row joined over so many places, with the version of each in a list by place; a place past the list has
 // version 0, and what the catalogue has not is 0.
-pub fn total<J: Joining, C: Catalogue>(
-    catalogue: &C,
-    row: u8,
-    places: u8,
-    versions: &[u8],
-) -> i64
+pub fn total<J: Joining, C: Catalogue>(catalogue: &C, row: u8, places: u8, versions: &[u8]) -> i64
     ensures { result ≡ joined_over J.Joining.rule (λ q. amount_in (C.Catalogue.meaning catalogue.now) row q (version versions.now q)) places }
 {
     let mut total = J::UNIT;

@@ -30,12 +30,12 @@ fn told<C: Catalogue>(sheet: &Sheet, catalogue: &C, finding: &Finding) -> Told
     ensures told { told_of result ≡ told sheet.now (finding_with sheet.now.places finding.now) }
     ensures prices { PricesAsked (C.Catalogue.meaning catalogue.now) sheet.now result }
 {
-    let choice = |part: &Part| choice(sheet, catalogue, part);
+    let named = |part: &Part| choice(sheet, catalogue, part);
     match finding {
-        Finding::Least(part, closing) => Told::Least(choice(part), closing_ground(closing)),
+        Finding::Least(part, closing) => Told::Least(named(part), closing_ground(closing)),
         Finding::Nothing(closing) => Told::Nothing(closing_ground(closing)),
-        Finding::Filled(best) => Told::Full(best.as_ref().map(choice)),
-        Finding::Unfinished(best) => Told::Unfinished(best.as_ref().map(choice)),
+        Finding::Filled(best) => Told::Full(best.as_ref().map(named)),
+        Finding::Unfinished(best) => Told::Unfinished(best.as_ref().map(named)),
     }
 }
 

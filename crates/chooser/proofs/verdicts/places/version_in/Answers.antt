@@ -1,4 +1,4 @@
-use Rattle.std.proofs.Common.{◌≡◌, ℕ, ◌≤◌, List, length, Some, None, ◌∙◌, arith, length-take, length-drop}
+use Rattle.std.proofs.Common.{ℕ, ◌≤◌, List, length, Some, None, ◌∙◌, arith, length-take, length-drop}
 use Rattle.search.specs.Parts.{part_of, versions_of}
 use Rattle.search.specs.declared.part.Part.{Part}
 use Rattle.chooser.proofs.FirstPlaces.{version_found}
