@@ -9,7 +9,7 @@ use Rattle.jobfile.specs.Reading.{amount_in, numbers_in, rungs_in}
 use Rattle.jobfile.specs.Writing.{four, fours, rung_numbers}
 use Rattle.jobfile.specs.Stated.{RungStated}
 
-abbrev byte : ℕ → Type 0
+abbrev pub byte : ℕ → Type 0
 byte b = b < 2 ^ 8
 
 -- each is a byte

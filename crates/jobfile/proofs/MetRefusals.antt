@@ -1,11 +1,13 @@
 -- A file that meets a refusal is read as that refusal. Assumes nothing.
-use Rattle.std.proofs.Common.{◌≡◌, ℕ, zero, suc, ◌+◌, ◌*◌, ◌/◌, ◌%◌, ◌≤◌, true, false, eqb, leb, List, [], ◌∷◌, ◌++◌, length, get_or, take, drop, Some, None, Err, Option, Result, ◌≢◌, sym, refl, ap, ◌∙◌, subst, append_assoc, arith, length-append, length-drop, length-take, w32, SFits}
+use Rattle.std.proofs.Common.{◌≡◌, ℕ, zero, suc, ◌+◌, ◌*◌, ◌/◌, ◌%◌, ◌≤◌, true, false, eqb, leb, List, [], ◌∷◌, ◌++◌, length, get_or, take, drop, Some, Err, Result, ◌≢◌, sym, refl, ap, ◌∙◌, subst, append_assoc, arith, length-append, length-drop, length-take, w32, SFits}
 use Rattle.std.specs.List.{AllByRecursion}
 use Rattle.std.proofs.lemmas.List.{drop_at}
 use Rattle.std.proofs.lemmas.Bool.{lt-leb, le-leb, eq-eqb, ne_eqb, cond-true, cond-false}
 use Rattle.rules.specs.declared.refusals.Fault.{Fault}
 use Rattle.rules.specs.Openings.{first_fault, after_tests}
 use Rattle.rules.proofs.Bools.{clash}
+use Rattle.rules.proofs.TestLists.{all_left, all_right, none_first}
+use Rattle.rules.proofs.TestLoops.{first_after}
 use Rattle.jobfile.specs.declared.fields.Field.{Field}
 use Rattle.jobfile.specs.declared.fields.Field.TheVariants as field
 use Rattle.jobfile.specs.declared.fields.Section.{Section}
@@ -17,7 +19,7 @@ use Rattle.jobfile.specs.Contents.{content_tests}
 use Rattle.jobfile.specs.Reading.{Reading, fresh, announced, decode, with_entry, and_then, FieldRead, read_rest, read_announced, read_field, read_fields, early, finish, read}
 use Rattle.jobfile.specs.Refusing.{Extent, nothing, to_rows, past_order, Front, so_far, MayFollow, row_missing, rows_there, FirstFailing, tag_in, length_in, Begins, FieldFails, head_cut, tag_wrong, length_wrong, body_cut, contents_wrong, Refused, too_long, at_field, no_order, places_missing}
 use Rattle.jobfile.specs.Theorems.{RefusedLaw}
-use Rattle.jobfile.proofs.Codec.{Bytes, bytes_take, length_fours, length_rung_numbers}
+use Rattle.jobfile.proofs.Codec.{byte, Bytes, bytes_take, length_fours, length_rung_numbers}
 use Rattle.jobfile.proofs.Decoding.{Shaped, Fits, decoded_body}
 use Rattle.jobfile.proofs.FieldReads.{entry_reads}
 use Rattle.jobfile.proofs.FileRuns.{Runs, stop, go, runs_read}
@@ -28,16 +30,6 @@ use Rattle.jobfile.proofs.ReadLaw.{late_section}
 use Rattle.jobfile.proofs.Lengths.{size_early, size_late}
 use Rattle.jobfile.proofs.RefusedFiles.{read_refused}
 
--- ---- lists of bytes
-
-bytes_front : (xs ys : List ℕ) → Bytes (xs ++ ys) → Bytes xs
-bytes_front [] ys h = tt
-bytes_front (x ∷ xs) ys h = (h.0, bytes_front xs ys h.1)
-
-bytes_back : (xs ys : List ℕ) → Bytes (xs ++ ys) → Bytes ys
-bytes_back [] ys h = h
-bytes_back (x ∷ xs) ys h = bytes_back xs ys h.1
-
 -- a body of the length that its field should have has as many numbers as it should
 shaped_length : (j : Stated) (e : FieldEntry) → length (body e) ≡ field_length j (field_of e) → Shaped j e
 shaped_length j (sheet n m z) h = tt
@@ -46,12 +38,6 @@ shaped_length j (order ps) h = omega (arith, h, length-append ps [])
 shaped_length j (version q zs) h = omega (arith, h, length_fours zs)
 shaped_length j (ladder q l) h = omega (arith, h, length_fours (rung_numbers l.rungs), length_rung_numbers l.rungs)
 shaped_length j (call r) h = tt
-
--- the first fault among tests is what they come to
-first_is : (before after : List (Option Fault)) (f : Fault) → AllByRecursion (λ t. t ≡ None) before → first_fault (before ++ (Some f ∷ after)) ≡ Some f
-first_is [] after f h = refl
-first_is (None ∷ before) after f h = first_is before after f h.1
-first_is (Some g ∷ before) after f h = absurd (cc)
 
 -- ---- a field that fails a test
 
@@ -75,14 +61,14 @@ module _ (at : ℕ) (s : Reading) (front : FrontOf s) where
       let low : c ≡ length (body e) % 256 = ap (λ xs. get_or xs 2 0) written in
       let size : length (body e) ≡ len = omega (arith, high, low) in
       let whole : len ≤ length tail = omega (arith, size, ap length said, length-take len tail) in
-      let fits : Fits e = record { bytes = bytes_front (singles e) _ (subst Bytes said (bytes_take len tail small.1.1.1)); long = long } in
+      let fits : Fits e = record { bytes = all_left byte (singles e) _ (subst Bytes said (bytes_take len tail small.1.1.1)); long = long } in
       let back : decode s.job (field_of e) (take len tail) ≡ e = ap (decode s.job (field_of e)) said ∙ decoded_body s.job e (shaped_length s.job e (size ∙ fit)) fits in
       let rd : FieldEntry → Result FieldRead Fault = λ x. after_tests (first_fault (content_tests s.job x at)) (record { size = 3 + len; reading = record { section = d; job = with_entry s.job x } }) in
       cond-true (eqb len (field_length s.job (field_of e))) _ _ (eq-eqb _ _ fit)
       ∙ cond-true (leb len (length tail)) _ _ (le-leb _ _ whole)
       ∙ ap rd back
       ∙ ap (λ ts. after_tests (first_fault ts) (record { size = 3 + len; reading = record { section = d; job = with_entry s.job e } })) first.are
-      ∙ ap (λ o. after_tests o (record { size = 3 + len; reading = record { section = d; job = with_entry s.job e } })) (first_is first.before first.after f first.passed)
+      ∙ ap (λ o. after_tests o (record { size = 3 + len; reading = record { section = d; job = with_entry s.job e } })) (first_after first.before (Some f ∷ first.after) (none_first first.before first.passed))
 
   contents_refused : (e : FieldEntry) (f : Fault) (bs : List ℕ) → Bytes bs → Begins (extent s.section) s.job bs (field_of e) → length_in bs ≡ field_length s.job (field_of e) → take (3 + length_in bs) bs ≡ field_bytes e → AllByRecursion (SFits w32) (numbers e) → FirstFailing (content_tests s.job e at) f → read_field s bs at ≡ Err f
   contents_refused e f [] small b fit is long first = absurd (omega (arith, b.whole))
@@ -209,7 +195,7 @@ refused_read bs f small (at_field x j rest front short fails) =
     cond-true (leb (length bs) most_bytes) _ _ (le-leb _ _ short)
     ∙ ap (λ o. and_then o (λ s. finish s (length bs)))
     (fields_refused (length bs) rest f w.runs (field_some fails) (omega arith) n (omega arith)
-    (field_refused n w.reading (runs_front w.runs refl).0 f rest (bytes_back (bytes_of (so_far x j)) rest small) (w.fails fails)))
+    (field_refused n w.reading (runs_front w.runs refl).0 f rest (all_right byte (bytes_of (so_far x j)) rest small) (w.fails fails)))
 refused_read bs f small (no_order x j front before) =
     let w = reached x j front in
     cond-true (leb (length bs) most_bytes) _ _ (le-leb _ _ (short_front x j front))
