@@ -1,0 +1,31 @@
+use Rattle.std.proofs.Common.{◌≡◌, ap, sym, ◌∙◌, subst}
+use Rattle.rules.specs.Records.{answered, job_after}
+use Rattle.rules.specs.Settings.{setting}
+use Rattle.chooser.specs.States.{catalogue_of, kept_of, sheet_of}
+use Rattle.report.specs.Reports.{call_line, closing_text}
+use Rattle.report.specs.Writing.{Puts}
+use Rattle.report.proofs.Closings.{closed_said, said}
+use Rattle.report.proofs.Putting.{both_put}
+use Rattle.report.proofs.page.Page.put_record.Goals as goal
+
+pub returns-then-was_running-clause-done : goal.returns-then-was_running-clause-done
+returns-then-was_running-clause-done g c =
+    let job = c.args.job in
+    let after = c.take-job.result.0 in
+    let m = g.C.Catalogue.meaning (catalogue_of job) in
+    let s = sheet_of job in
+    let q = c.args.record.now.request in
+    let same : said (g.C.Catalogue.meaning (catalogue_of after)) (sheet_of after) (kept_of after) ≡ closing_text m s (kept_of job) (job_after (setting m s) (kept_of job) q) =
+        ap (λ d. said (g.C.Catalogue.meaning d) (sheet_of after) (kept_of after)) c.take-job.ensures.catalogue
+        ∙ ap (λ s. said m s (kept_of after)) c.take-job.ensures.sheet
+        ∙ ap (said m s) c.take-job.ensures.job
+        ∙ sym (closed_said m s job (job_after (setting m s) (kept_of job) q) (sym c.is_running-was_running.ensures ∙ c.if-was_running.true) (λ f e. ap (λ k. job_after (setting m s) k q) e))
+    in
+    record {
+      answer = ap (answered c.args.record.now) c.take-job.ensures.answer;
+      job_is = c.take-job.ensures.job;
+      text =
+          both_put
+          (subst (λ n. Puts c.args.self.now (call_line c.args.number n) c.put_call.new.self) c.take-job.ensures.answer c.put_call.ensures)
+          (subst (λ t. Puts c.put_call.new.self t c.put_verdict_of.new.self) same c.put_verdict_of.ensures);
+    }
