@@ -13,3 +13,6 @@ pub use driver::Job;
 pub use jobs::{ClosedJob, RunningJob};
 pub use verdicts::{Choice, ClosingGround, Seen, Told};
 pub use whole::choose;
+
+#[cfg(test)]
+mod tests;
