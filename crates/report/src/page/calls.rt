@@ -35,7 +35,11 @@ impl Page {
 
     // Carries out call records on a job, and writes their lines; a search that is still running after the last is closed,
     // and its verdict ends the text.
-    pub(crate) fn put_calls<C: Catalogue + Drop>(&mut self, mut job: Job<C>, records: &mut [CallRecord])
+    pub(crate) fn put_calls<C: Catalogue + Drop>(
+        &mut self,
+        mut job: Job<C>,
+        records: &mut [CallRecord],
+    )
         ensures records { records.new ≡ all_answered (setting (C.Catalogue.meaning (catalogue_of job)) (sheet_of job)) (kept_of job) records.old }
         ensures text { Puts self.old (calls_text (C.Catalogue.meaning (catalogue_of job)) (sheet_of job) (kept_of job) 1 records.old) self.new }
     {
