@@ -74,9 +74,9 @@ impl Page {
     fn put_end<C: Catalogue + Drop>(&mut self, job: Job<C>)
         ensures { let m = C.Catalogue.meaning (catalogue_of job) in let s = sheet_of job in Puts self.old (closing_text m s (kept_of job) (closed_job (setting m s) (kept_of job))) self.new }
     {
-        let was_running = is_running(&job);
+        let running = is_running(&job);
         let closed = job.closed();
-        if was_running {
+        if running {
             self.put_verdict(&closed);
         }
     }

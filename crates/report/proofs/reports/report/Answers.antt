@@ -1,4 +1,4 @@
-use Rattle.std.proofs.Common.{◌≡◌, ◌++◌, drop, length, ap, sym, ◌∙◌, arith}
+use Rattle.std.proofs.Common.{◌≡◌, ◌++◌, drop, length, ap, sym, ◌∙◌}
 use Rattle.rules.specs.Records.{work_records}
 use Rattle.chooser.specs.Models.{kept_closed}
 use Rattle.report.specs.Reports.{report_text}
