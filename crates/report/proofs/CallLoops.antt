@@ -1,12 +1,12 @@
 -- Call records carried out one after the other, with their lines. Assumes nothing.
-use Rattle.std.proofs.Common.{◌≡◌, ℕ, suc, ◌+◌, ◌<◌, ◌≤◌, List, [], ◌∷◌, ◌++◌, drop, get_or, length, set, add-one, refl, sym, ap, ◌∙◌, subst, arith}
+use Rattle.std.proofs.Common.{◌≡◌, ℕ, suc, ◌+◌, ◌<◌, ◌≤◌, List, ◌++◌, drop, get_or, length, set, add-one, refl, sym, subst, arith}
 use Rattle.std.proofs.lemmas.List.{drop-set-lt, drop_all, drop_more}
 use Rattle.rules.specs.declared.records.CallRecord.{CallRecord}
 use Rattle.rules.specs.declared.sheets.Sheet.{Sheet}
 use Rattle.rules.specs.Catalogues.{Meaning}
 use Rattle.rules.specs.Grounds.{Setting}
 use Rattle.rules.specs.KeptJobs.{KeptJob}
-use Rattle.rules.specs.Records.{all_answered, answer_to, answered, closed_job, job_after}
+use Rattle.rules.specs.Records.{all_answered, answer_to, closed_job, job_after}
 use Rattle.rules.specs.Settings.{setting}
 use Rattle.chooser.proofs.Plays.{Underway, none_yet, one_more, all_done}
 use Rattle.report.specs.declared.page.Page.{Page}

@@ -29,3 +29,7 @@ module _ (m : Meaning) (s : Sheet) where
   pub closed_said : {D : Type 0} {g : _} (j : Job D g) (k : KeptJob) → is_running j ≡ true → KeepsFault (kept_of j) k → closing_text m s (kept_of j) k ≡ said k
   closed_said (Closed j) k r h = cc
   closed_said (Running j) k r h = closed_running j.opened k h
+
+-- the verdict of a job as code has it
+pub same_said : {n m : Meaning} {t s : Sheet} {i k : KeptJob} → n ≡ m → t ≡ s → i ≡ k → said n t i ≡ said m s k
+same_said {n} {m} {t} {s} {i} {k} d e f = ap (λ m. said m t i) d ∙ ap (λ s. said m s i) e ∙ ap (said m s) f

@@ -1,14 +1,12 @@
 -- What is answered of a file that states a job. Assumes nothing.
-use Rattle.std.proofs.Common.{◌≡◌, ℕ, Bool, true, false, cond, leb, List, length, MatchResult, Ok, Err, Result, Some, None, refl, sym, ap, ◌∙◌, subst, arith}
+use Rattle.std.proofs.Common.{◌≡◌, ℕ, Bool, true, false, cond, leb, List, length, MatchResult, Ok, Err, Result, Some, None, refl, ap, ◌∙◌, subst, arith}
 use Rattle.std.specs.Result.{result_err}
 use Rattle.std.proofs.lemmas.Bool.{cond-true, cond-false, leb-false, le-leb}
 use Rattle.std.proofs.lemmas.List.{length-map}
 use Rattle.rules.specs.declared.records.CallRecord.{CallRecord}
 use Rattle.rules.specs.declared.refusals.Fault.{Fault}
 use Rattle.rules.specs.declared.refusals.Refusal.TheVariants.{BufferTooShort, NoCall}
-use Rattle.rules.specs.declared.sheets.Sheet.{Sheet}
 use Rattle.rules.specs.Catalogues.{Meaning}
-use Rattle.rules.specs.Openings.{opening}
 use Rattle.rules.specs.Refusals.{fault, where_holds}
 use Rattle.rules.proofs.Bools.{split}
 use Rattle.jobfile.specs.declared.job.Job.{Job}

@@ -21,9 +21,9 @@ module _ (a b : Meaning) (same : SameAnswers a b) where
   same_versions : (q : ℕ) → 1 ≤ q → q ≤ a.places → a.versions q ≡ b.versions q
   same_versions q x y =
       let told : Some (a.versions q) ≡ Some (b.versions q) =
-          sym (cond-true (has_place a q) (Some (a.versions q)) None (placed a q x y))
-          ∙ same.versions q
-          ∙ cond-true (has_place b q) (Some (b.versions q)) None (placed b q x (omega (arith, same.places)))
+      sym (cond-true (has_place a q) (Some (a.versions q)) None (placed a q x y))
+      ∙ same.versions q
+      ∙ cond-true (has_place b q) (Some (b.versions q)) None (placed b q x (omega (arith, same.places)))
       in
       cc
 
@@ -35,9 +35,9 @@ module _ (a b : Meaning) (same : SameAnswers a b) where
   same_amounts row q v r x y u w =
       let few : v ≤ b.versions q = subst (λ n. v ≤ n) (same_versions q x y) w in
       let told : Some (a.amount row q v) ≡ Some (b.amount row q v) =
-          sym (cond-true (has_amount a row q v) (Some (a.amount row q v)) None (there a row q v r x y u w))
-          ∙ same.amounts row q v
-          ∙ cond-true (has_amount b row q v) (Some (b.amount row q v)) None (there b row q v (omega (arith, same.rows)) x (omega (arith, same.places)) u few)
+      sym (cond-true (has_amount a row q v) (Some (a.amount row q v)) None (there a row q v r x y u w))
+      ∙ same.amounts row q v
+      ∙ cond-true (has_amount b row q v) (Some (b.amount row q v)) None (there b row q v (omega (arith, same.rows)) x (omega (arith, same.places)) u few)
       in
       cc
 

@@ -1,7 +1,7 @@
 -- Texts written one behind another. Assumes nothing.
 use Rattle.std.proofs.Common.{◌≡◌, ℕ, ◌+◌, ◌<◌, List, [], ◌∷◌, ◌++◌, flat_map, get_or, length, take, sym, ap, ◌∙◌, subst, append_assoc}
 use Rattle.std.proofs.lemmas.List.{append-nil}
-use Rattle.std.proofs.lemmas.Grind.{common_steps, flat_map-append, take_at_read}
+use Rattle.std.proofs.lemmas.Grind.{flat_map-append, take_at_read}
 use Rattle.report.specs.declared.page.Page.{Page}
 use Rattle.report.specs.Pages.{fitting}
 use Rattle.report.specs.Writing.{Puts}

@@ -60,5 +60,5 @@ module _ (m : Meaning) (w : SoundMeaning m) (s : Sheet) (rs : List CallRecord) w
       let counted : Result ℕ Fault = where_holds (leb (length rs) most_reported) (fault NoCall) answer in
       ap (λ xs. Ok (length xs)) e
       ∙ sym (ap (λ o. fault_first o (where_holds (leb report_buffer (length buffer)) (fault BufferTooShort) counted)) (no_fault h)
-        ∙ cond-true (leb report_buffer (length buffer)) counted (Err (fault BufferTooShort)) (le-leb report_buffer (length buffer) enough)
-        ∙ cond-true (leb (length rs) most_reported) answer (Err (fault NoCall)) (le-leb (length rs) most_reported h.few))
+      ∙ cond-true (leb report_buffer (length buffer)) counted (Err (fault BufferTooShort)) (le-leb report_buffer (length buffer) enough)
+      ∙ cond-true (leb (length rs) most_reported) answer (Err (fault NoCall)) (le-leb (length rs) most_reported h.few))

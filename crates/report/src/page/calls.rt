@@ -35,7 +35,11 @@ impl Page {
 
     // Carries out call records on a job, and writes their lines; a search that is still running after the last is closed,
     // and its verdict ends the text.
-    pub(crate) fn put_calls<C: Catalogue + Drop>(&mut self, mut job: Job<C>, records: &mut [CallRecord])
+    pub(crate) fn put_calls<C: Catalogue + Drop>(
+        &mut self,
+        mut job: Job<C>,
+        records: &mut [CallRecord],
+    )
         ensures records { records.new ≡ all_answered (setting (C.Catalogue.meaning (catalogue_of job)) (sheet_of job)) (kept_of job) records.old }
         ensures text { Puts self.old (calls_text (C.Catalogue.meaning (catalogue_of job)) (sheet_of job) (kept_of job) 1 records.old) self.new }
     {
@@ -70,9 +74,9 @@ impl Page {
     fn put_end<C: Catalogue + Drop>(&mut self, job: Job<C>)
         ensures { let m = C.Catalogue.meaning (catalogue_of job) in let s = sheet_of job in Puts self.old (closing_text m s (kept_of job) (closed_job (setting m s) (kept_of job))) self.new }
     {
-        let was_running = is_running(&job);
+        let running = is_running(&job);
         let closed = job.closed();
-        if was_running {
+        if running {
             self.put_verdict(&closed);
         }
     }

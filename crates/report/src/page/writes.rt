@@ -30,10 +30,7 @@ impl Page {
         ensures { Puts self.old word.now self.new }
     {
         let length = word.len().min(self.bytes.remaining_capacity());
-        let Ok(()) = self
-            .bytes
-            .try_extend_from_slice(&word.as_bytes()[..length])
-        else {
+        let Ok(()) = self.bytes.try_extend_from_slice(&word.as_bytes()[..length]) else {
             unreachable!()
         };
     }

@@ -1,4 +1,4 @@
-use Rattle.std.proofs.Common.{◌≡◌, ◌++◌, drop, length, ap, sym, ◌∙◌, arith}
+use Rattle.std.proofs.Common.{◌≡◌, ◌++◌, drop, length, ap, sym, ◌∙◌}
 use Rattle.rules.specs.Records.{work_records}
 use Rattle.chooser.specs.Models.{kept_closed}
 use Rattle.report.specs.Reports.{report_text}
@@ -14,7 +14,7 @@ returns-clause-told g c =
     let job = c.open-job.result in
     let o = c.open-job.ensures in
     let opened : Opened m w s rs (g.C.Catalogue.meaning job.catalogue) job.sheet (kept_closed job.opened) =
-        record { catalogue = ap g.C.Catalogue.meaning o.catalogue; sheet = o.sheet; job = o.job; faultless = sym c.fault.ensures ∙ c.in_default.is; few = c.if-records-gt-MOST_REPORTED.false }
+    record { catalogue = ap g.C.Catalogue.meaning o.catalogue; sheet = o.sheet; job = o.job; faultless = sym c.fault.ensures ∙ c.in_default.is; few = c.if-records-gt-MOST_REPORTED.false }
     in
     length_answered m w s rs c.text-text.result.now c.args.out.now opened c.if-out-lt-REPORT_BUFFER.false (c.text-text.ensures.text ∙ whole_text m w s rs c.page_of-page.result.bytes.items opened c.page_of-page.ensures.text)
 
@@ -28,7 +28,7 @@ returns-clause-done g c =
     let o = c.open-job.ensures in
     let page = c.page_of-page in
     let opened : Opened m w s rs (g.C.Catalogue.meaning job.catalogue) job.sheet (kept_closed job.opened) =
-        record { catalogue = ap g.C.Catalogue.meaning o.catalogue; sheet = o.sheet; job = o.job; faultless = sym c.fault.ensures ∙ c.in_default.is; few = c.if-records-gt-MOST_REPORTED.false }
+    record { catalogue = ap g.C.Catalogue.meaning o.catalogue; sheet = o.sheet; job = o.job; faultless = sym c.fault.ensures ∙ c.in_default.is; few = c.if-records-gt-MOST_REPORTED.false }
     in
     let answers : page.new.records ≡ work_records m s rs = page.ensures.records ∙ as_worked m w s rs opened in
     let text : page.result.bytes.items ≡ report_text m s rs = whole_text m w s rs page.result.bytes.items opened page.ensures.text in

@@ -1,5 +1,4 @@
-use Rattle.std.proofs.Common.{ap, sym, ◌∙◌, arith}
-use Rattle.report.specs.Pages.{fitting}
+use Rattle.std.proofs.Common.{arith}
 use Rattle.report.proofs.Fitting.{fitting_all}
 use Rattle.report.proofs.page.Page.blank.Goals as goal
 

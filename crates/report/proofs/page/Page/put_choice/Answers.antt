@@ -1,8 +1,6 @@
 use Rattle.std.proofs.Common.{◌≡◌, ◌++◌, ◌∙◌, codes, decimal, flat_map, subst, w64, to_z, of_z, arith}
 use Rattle.std.specs.Fmt.{signed_decimal}
 use Rattle.std.proofs.lemmas.Int.{ints}
-use Rattle.rules.specs.Choices.{price}
-use Rattle.report.specs.Reports.{choice_text}
 use Rattle.report.specs.Writing.{Puts}
 use Rattle.report.proofs.Putting.{both_put}
 use Rattle.report.proofs.page.Page.put_choice.Goals as goal

@@ -4,7 +4,7 @@ use Rattle.rules.specs.Settings.{setting}
 use Rattle.chooser.specs.States.{catalogue_of, kept_of, sheet_of}
 use Rattle.report.specs.Reports.{call_line, closing_text}
 use Rattle.report.specs.Writing.{Puts}
-use Rattle.report.proofs.Closings.{closed_said, said}
+use Rattle.report.proofs.Closings.{closed_said, said, same_said}
 use Rattle.report.proofs.Putting.{both_put}
 use Rattle.report.proofs.page.Page.put_record.Goals as goal
 
@@ -16,10 +16,8 @@ returns-then-was_running-clause-done g c =
     let s = sheet_of job in
     let q = c.args.record.now.request in
     let same : said (g.C.Catalogue.meaning (catalogue_of after)) (sheet_of after) (kept_of after) ≡ closing_text m s (kept_of job) (job_after (setting m s) (kept_of job) q) =
-        ap (λ d. said (g.C.Catalogue.meaning d) (sheet_of after) (kept_of after)) c.take-job.ensures.catalogue
-        ∙ ap (λ s. said m s (kept_of after)) c.take-job.ensures.sheet
-        ∙ ap (said m s) c.take-job.ensures.job
-        ∙ sym (closed_said m s job (job_after (setting m s) (kept_of job) q) (sym c.is_running-was_running.ensures ∙ c.if-was_running.true) (λ f e. ap (λ k. job_after (setting m s) k q) e))
+    same_said (ap g.C.Catalogue.meaning c.take-job.ensures.catalogue) c.take-job.ensures.sheet c.take-job.ensures.job
+    ∙ sym (closed_said m s job (job_after (setting m s) (kept_of job) q) (sym c.is_running-was_running.ensures ∙ c.if-was_running.true) (λ f e. ap (λ k. job_after (setting m s) k q) e))
     in
     record {
       answer = ap (answered c.args.record.now) c.take-job.ensures.answer;
