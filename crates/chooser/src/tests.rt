@@ -53,7 +53,7 @@ fn sheet(places: u8, cap: i32, given: &[(u8, i32)]) -> Sheet {
     }
     Sheet {
         places,
-        last_row: given.len() as u8,
+        last_row: given.len().min(GREATEST_ROW) as u8,
         cap,
         rows,
         order: array::from_fn(|index| index as u8 + 1),

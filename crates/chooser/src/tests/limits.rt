@@ -27,11 +27,8 @@ fn a_change_makes_unsearched(rt: HostRuntime) -> Result<(), Fail> {
     Ok(())
 }
 
-#[test]
-fn the_cap_as_a_limit(rt: HostRuntime) -> Result<(), Fail> {
-    let mut job = worked()?;
-    assert_eq!(rt; job.change_limit(0, 120), Ok(()));
-    let mut job = searched(&rt, job, 100, Why::HasEnded, 4);
+// No choice costs 120 at most with at least 60 of row 1.
+fn assert_none(rt: &impl Abort, job: &ClosedJob<Ladder>) -> Result<(), Fail> {
     let expected = Expected {
         says: "none",
         best: None,
@@ -39,7 +36,15 @@ fn the_cap_as_a_limit(rt: HostRuntime) -> Result<(), Fail> {
         steps: 4,
         held: 3,
     };
-    assert_verdict(&rt, &job, expected)?;
+    assert_verdict(rt, job, expected)
+}
+
+#[test]
+fn the_cap_as_a_limit(rt: HostRuntime) -> Result<(), Fail> {
+    let mut job = worked()?;
+    assert_eq!(rt; job.change_limit(0, 120), Ok(()));
+    let mut job = searched(&rt, job, 100, Why::HasEnded, 4);
+    assert_none(&rt, &job)?;
     assert_eq!(rt; job.change_limit(0, 130), Ok(()));
     let job = searched(&rt, job, 100, Why::HasEnded, 6);
     let expected = Expected {
