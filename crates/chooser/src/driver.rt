@@ -1,8 +1,4 @@
 // A job, closed or running, and the calls that come as records.
-ghost use Rattle.std.specs.Prelude.{◌≡◌};
-ghost use Rattle.rules.specs.Settings.{setting};
-ghost use Rattle.rules.specs.KeptJobs.{told_on, job_by};
-
 use crate::jobs::{ClosedJob, RunningJob};
 use catalogue::Catalogue;
 
