@@ -7,10 +7,6 @@ use Rattle.report.specs.Pages.{fitting}
 use Rattle.report.specs.Writing.{Puts}
 use Rattle.report.proofs.Fitting.{fitting_again}
 
--- nothing
-pub none_put : (p : Page) → Puts p [] p
-none_put p = record { text_is = sym (ap fitting (append-nil p.bytes.items) ∙ p.fits) }
-
 -- two texts
 pub both_put : {p q r : Page} {a b : List ℕ} → Puts p a q → Puts q b r → Puts p (a ++ b) r
 both_put {p} {q} {r} {a} {b} e f =

@@ -54,15 +54,15 @@ impl Page {
         &mut self,
         job: Job<C>,
         number: usize,
-        record: &mut CallRecord,
+        call: &mut CallRecord,
     ) -> Job<C>
         ensures sheet { sheet_of result ≡ sheet_of job }
         ensures catalogue { catalogue_of result ≡ catalogue_of job }
-        ensures done { Recorded (C.Catalogue.meaning (catalogue_of job)) (sheet_of job) (kept_of job) number record.old record.new (kept_of result) self.old self.new }
+        ensures done { Recorded (C.Catalogue.meaning (catalogue_of job)) (sheet_of job) (kept_of job) number call.old call.new (kept_of result) self.old self.new }
     {
         let was_running = is_running(&job);
-        let (job, answer) = job.take(record.request);
-        record.answer = answer;
+        let (job, answer) = job.take(call.request);
+        call.answer = answer;
         self.put_call(number, answer);
         if was_running {
             self.put_verdict_of(&job);

@@ -20,7 +20,7 @@ loop-index-preserved g c =
       sheet = o.sheet ∙ l.invariant.sheet;
       catalogue = o.catalogue ∙ l.invariant.catalogue;
       along =
-          one_more_written (g.C.Catalogue.meaning (catalogue_of first)) (sheet_of first) (kept_of first) c.args.records.now c.args.self.now (kept_of l.job) (kept_of c.put_record-job.result) l.index l.records _ c.put_record-job.new.record l.self c.put_record-job.new.self
+          one_more_written (g.C.Catalogue.meaning (catalogue_of first)) (sheet_of first) (kept_of first) c.args.records.now c.args.self.now (kept_of l.job) (kept_of c.put_record-job.result) l.index l.records _ c.put_record-job.new.call l.self c.put_record-job.new.self
           (omega arith) l.invariant.along (recorded_same (ap g.C.Catalogue.meaning l.invariant.catalogue) l.invariant.sheet o.done);
     }
 

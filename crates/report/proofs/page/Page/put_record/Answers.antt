@@ -14,13 +14,13 @@ returns-then-was_running-clause-done g c =
     let after = c.take-job.result.0 in
     let m = g.C.Catalogue.meaning (catalogue_of job) in
     let s = sheet_of job in
-    let q = c.args.record.now.request in
+    let q = c.args.call.now.request in
     let same : said (g.C.Catalogue.meaning (catalogue_of after)) (sheet_of after) (kept_of after) ≡ closing_text m s (kept_of job) (job_after (setting m s) (kept_of job) q) =
     same_said (ap g.C.Catalogue.meaning c.take-job.ensures.catalogue) c.take-job.ensures.sheet c.take-job.ensures.job
     ∙ sym (closed_said m s job (job_after (setting m s) (kept_of job) q) (sym c.is_running-was_running.ensures ∙ c.if-was_running.true) (λ f e. ap (λ k. job_after (setting m s) k q) e))
     in
     record {
-      answer = ap (answered c.args.record.now) c.take-job.ensures.answer;
+      answer = ap (answered c.args.call.now) c.take-job.ensures.answer;
       job_is = c.take-job.ensures.job;
       text =
           both_put
