@@ -1,6 +1,7 @@
 // Calls, and which one is made next.
 use crate::draws::Draw;
 use crate::jobs::Judge;
+use crate::limits::draw_around;
 use crate::models::{Made, Model};
 use rules::{GREATEST_LIMIT, MOST_STEPS, Request};
 
@@ -59,22 +60,29 @@ fn draw_nothing(draw: &mut Draw) -> Call {
     })
 }
 
-// A limit on a row that is taken: around what a choice comes to, and on the price also around the least that was found.
+// What limits of a row are drawn around: mostly what the middle choice comes to, and for the price also the least that was found last.
+fn draw_total(judge: &Judge<'_>, model: &Model, draw: &mut Draw, row: u8) -> i64 {
+    let versions = if draw.one_in(4) {
+        judge.draw_choice(draw)
+    } else {
+        judge.job.middle
+    };
+    match model.least {
+        Some(price) if row == 0 && draw.one_in(2) => price,
+        _ => judge.total(row, &versions).unwrap_or(0),
+    }
+}
+
+// A limit change that is taken.
 fn draw_change(judge: &Judge<'_>, model: &Model, draw: &mut Draw) -> Call {
     let row = draw.byte(0, judge.job.sheet.last_row);
-    let choice = judge.draw_choice(draw);
-    let total = judge.total(row, &choice).unwrap_or(0);
-    let near = match model.least {
-        Some(price) if row == 0 && draw.one_in(2) => price,
-        _ => total,
-    };
+    let total = draw_total(judge, model, draw, row);
     let limit = match draw.below(8) {
-        0 => i64::from(LIMIT),
-        1 => -i64::from(LIMIT),
-        2 => near.saturating_add(i64::from(draw.between(-1_000, 1_000))),
-        _ => near.saturating_add(i64::from(draw.between(-2, 2))),
+        0 => draw.between(-LIMIT, LIMIT),
+        1 => i32::try_from(total.saturating_add(i64::from(draw.between(-1, 1)))).unwrap_or(0),
+        _ => i32::try_from(draw_around(draw, judge.job.kind(row), total)).unwrap_or(0),
     };
-    Call::Change(row, i32::try_from(limit).unwrap_or(0).clamp(-LIMIT, LIMIT))
+    Call::Change(row, limit.clamp(-LIMIT, LIMIT))
 }
 
 // A limit beyond the bounds.
@@ -114,9 +122,9 @@ fn draw_on_closed(judge: &Judge<'_>, model: &Model, draw: &mut Draw) -> Call {
 fn draw_budget(made: &Made, draw: &mut Draw) -> Call {
     let left = STEPS.saturating_sub(i64::from(made.most));
     let budget = match draw.below(12) {
-        0..=3 => i64::from(draw.between(0, 12)),
-        4..=6 => i64::from(draw.between(0, 100)),
-        7 => left,
+        0..=2 => i64::from(draw.between(0, 12)),
+        3..=5 => i64::from(draw.between(0, 100)),
+        6 => left,
         _ => 20_000,
     };
     Call::Run(i32::try_from(budget.min(left)).unwrap_or(0))
@@ -143,12 +151,21 @@ fn draw_for_closed(judge: &Judge<'_>, draw: &mut Draw) -> Call {
     }
 }
 
+// A close, or mostly a run where none was made.
+fn draw_close(made: &Made, draw: &mut Draw) -> Call {
+    if made.most == 0 && !draw.one_in(4) {
+        draw_budget(made, draw)
+    } else {
+        Call::Close
+    }
+}
+
 fn draw_in_search(judge: &Judge<'_>, made: &Made, draw: &mut Draw) -> Call {
     match draw.below(20) {
         0 => draw_nothing(draw),
         1 => draw_refused_budget(made, draw),
         2 => draw_for_closed(judge, draw),
-        3..=12 => draw_budget(made, draw),
-        _ => Call::Close,
+        3..=11 => draw_budget(made, draw),
+        _ => draw_close(made, draw),
     }
 }

@@ -16,6 +16,8 @@ pub(crate) struct Counts {
     pub(crate) full_with_best: u32,
     pub(crate) unfinished: u32,
     pub(crate) unfinished_with_best: u32,
+    // Steps of all closed searches.
+    pub(crate) steps: u32,
     // Closing grounds that were held against their limits, and lists of limits that were tried on one.
     pub(crate) grounds: u32,
     pub(crate) lists: u32,
@@ -52,6 +54,7 @@ impl Counts {
             "UNFINISHED {} WITH BEST {}",
             self.unfinished, self.unfinished_with_best
         )?;
+        println!(rt; "STEPS {}", self.steps)?;
         println!(rt; "GROUNDS {}", self.grounds)?;
         println!(rt; "LISTS {}", self.lists)
     }

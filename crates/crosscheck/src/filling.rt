@@ -63,6 +63,7 @@ pub(crate) fn draw_job(alloc: Global, draw: &mut Draw) -> Result<Drawn> {
     let mut job = Drawn {
         sheet: draw_sheet(draw, count.saturating_sub(1)),
         kinds: [Kind::SumAtMost; MOST_ROWS],
+        middle: [1; MOST_PLACES],
         first: Vec::new(alloc),
         listed: Vec::new(alloc),
         fields: Vec::new(alloc),

@@ -26,6 +26,8 @@ pub(crate) struct ListedPlace {
 pub(crate) struct Drawn {
     pub(crate) sheet: Sheet,
     pub(crate) kinds: [Kind; MOST_ROWS],
+    // Limits are mostly drawn around what this choice comes to.
+    pub(crate) middle: [u8; MOST_PLACES],
     pub(crate) first: Vec<LadderPlace>,
     pub(crate) listed: Vec<ListedPlace>,
     pub(crate) fields: Vec<u8>,

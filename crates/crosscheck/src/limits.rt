@@ -1,4 +1,5 @@
 // Lists of limits, and how a limit is broken.
+use crate::draws::Draw;
 use rules::{Kind, MOST_ROWS, Sheet};
 use std::array;
 
@@ -64,4 +65,20 @@ pub(crate) fn loosest(kind: Kind) -> i64 {
         Kind::SumAtMost | Kind::GreatestAtMost => i64::from(i32::MAX),
         Kind::SumAtLeast => i64::from(i32::MIN),
     }
+}
+
+// How much looser a limit is than a total: mostly not at all or little.
+fn draw_slack(draw: &mut Draw) -> i32 {
+    match draw.below(24) {
+        0 => draw.between(-3, -1),
+        1..=11 => 0,
+        12..=19 => draw.between(0, 20),
+        _ => draw.between(0, 2_000_000),
+    }
+}
+
+// A limit around a total, mostly one that the total keeps.
+pub(crate) fn draw_around(draw: &mut Draw, kind: Kind, total: i64) -> i64 {
+    let slack = i64::from(draw_slack(draw));
+    stricter(kind, total, slack.saturating_neg())
 }

@@ -26,7 +26,7 @@ use std::alloc::Global;
 const JOBS: u32 = 3_000;
 
 // One in so many of them is made to fill the ledger.
-const FILLING: u32 = 60;
+const FILLING: u32 = 30;
 
 // The job of a number.
 fn drawn(alloc: Global, draw: &mut Draw, number: u32) -> Result<Drawn> {
@@ -40,14 +40,14 @@ fn drawn(alloc: Global, draw: &mut Draw, number: u32) -> Result<Drawn> {
 // Draws a job and plays a list of calls on it.
 fn try_job(alloc: Global, counts: &mut Counts, number: u32) -> Result<()> {
     let mut draw = Draw::of(number);
-    let job = drawn(alloc, &mut draw, number)?;
-    plays::play(&job, &mut draw, counts)
+    let job = drawn(alloc, &mut draw, number).context(format_args!("job {number}"))?;
+    plays::play(&job, number, &mut draw, counts)
 }
 
 fn run(rt: &HostRuntime) -> Result<()> {
     let mut counts = Counts::default();
     for number in 1..=JOBS {
-        try_job(rt.alloc(), &mut counts, number).context(format_args!("job {number}"))?;
+        try_job(rt.alloc(), &mut counts, number)?;
     }
     println!(rt; "JOBS {JOBS}")?;
     counts.print(rt)?;

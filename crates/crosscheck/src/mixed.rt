@@ -1,7 +1,7 @@
 // Jobs of all sorts.
 use crate::draws::Draw;
 use crate::jobs::{Drawn, Judge, LadderPlace, ListedPlace};
-use crate::limits::{Limits, stricter};
+use crate::limits::{Limits, draw_around};
 use anyhow::{Context, Result};
 use catalogue::Rung;
 use exhaustive::cheapest;
@@ -146,6 +146,7 @@ fn draw_frame(alloc: Global, draw: &mut Draw) -> Drawn {
     Drawn {
         sheet,
         kinds,
+        middle: [1; MOST_PLACES],
         first: Vec::new(alloc),
         listed: Vec::new(alloc),
         fields: Vec::new(alloc),
@@ -229,25 +230,12 @@ impl Drawn {
     }
 }
 
-// How much looser a limit is than a total: mostly not at all or little.
-fn draw_slack(draw: &mut Draw) -> i64 {
-    let slack = match draw.below(24) {
-        0 => draw.between(-3, -1),
-        1..=11 => 0,
-        12..=19 => draw.between(0, 20),
-        _ => draw.between(0, 2_000_000),
-    };
-    i64::from(slack)
-}
-
-// The limits of the rows from 1 on, around what one choice comes to.
+// The limits of the rows from 1 on, around what the middle choice comes to.
 fn draw_limits(judge: &Judge<'_>, draw: &mut Draw) -> Limits {
-    let choice = judge.draw_choice(draw);
     let mut limits = Limits::of(&judge.job.sheet);
     for row in 1..=judge.job.sheet.last_row {
-        let total = judge.total(row, &choice).unwrap_or(0);
-        let slack = draw_slack(draw).saturating_neg();
-        limits = limits.with(row, stricter(judge.job.kind(row), total, slack));
+        let total = judge.total(row, &judge.job.middle).unwrap_or(0);
+        limits = limits.with(row, draw_around(draw, judge.job.kind(row), total));
     }
     limits
 }
@@ -279,6 +267,7 @@ pub(crate) fn draw_job(alloc: Global, draw: &mut Draw) -> Result<Drawn> {
     let mut job = draw_frame(alloc, draw);
     let spans = draw_spans(draw);
     job.add_places(draw, &spans)?;
+    job.middle = Judge::of(&job)?.draw_choice(draw);
     job.sheet = draw_sheet(&job, draw)?;
     Ok(job)
 }

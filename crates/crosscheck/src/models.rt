@@ -3,7 +3,7 @@ use crate::calls::Call;
 use crate::limits::Limits;
 use anyhow::{Result, bail, ensure};
 use chooser::{Seen, Told};
-use rules::{GREATEST_LIMIT, MOST_GROUNDS, MOST_STEPS, Sheet};
+use rules::{Fault, GREATEST_LIMIT, MOST_GROUNDS, MOST_STEPS, Sheet};
 use search::{Ran, Why};
 
 // The numbers of the refusals that calls meet.
@@ -13,9 +13,28 @@ const LIMIT_BEYOND: u8 = 8;
 
 const NOT_IN_THIS_STATE: u8 = 14;
 
-const NO_SUCH_ROW: u8 = 15;
+pub(crate) const NO_SUCH_ROW: u8 = 15;
 
 const BUDGET_BEYOND: u8 = 16;
+
+// The layers that test a limit, and a call on a job.
+const SHEET_LAYER: u8 = 2;
+
+const JOB_LAYER: u8 = 4;
+
+// What a refusal tells that says nothing of where it was met.
+pub(crate) fn plain_fault(number: u8) -> Fault {
+    let layer = if number == LIMIT_BEYOND {
+        SHEET_LAYER
+    } else {
+        JOB_LAYER
+    };
+    Fault {
+        layer,
+        number,
+        ..Fault::default()
+    }
+}
 
 // What the runs of a search have come to. A run by a record doesn't tell its steps: so they lie between two numbers, and are known where these
 // are the same.

@@ -6,10 +6,10 @@ use crate::counts::Counts;
 use crate::draws::Draw;
 use crate::jobs::{Drawn, Judge, Mixed};
 use crate::limits::Limits;
-use crate::models::{Model, Said};
+use crate::models::{Model, NO_SUCH_ROW, Said, plain_fault};
 use anyhow::{Context, Result, anyhow, bail, ensure};
 use chooser::{ClosedJob, Job};
-use rules::{Fault, Refusal};
+use rules::Fault;
 
 // So many calls are made on a job, and one more that closes it where a search is running.
 const CALLS: u32 = 40;
@@ -17,15 +17,6 @@ const CALLS: u32 = 40;
 // What a job that was opened without fault tells.
 pub(crate) fn told<T: Drop>(told: Result<T, Fault>) -> Result<T> {
     told.map_err(|fault| anyhow!("a fault {}", fault.number))
-}
-
-// The layer of a refusal of a call.
-fn layer(number: u8) -> u8 {
-    match number {
-        5 => 1,
-        8 => 2,
-        _ => 4,
-    }
 }
 
 // Holds an answer against the number that is expected.
@@ -36,12 +27,10 @@ fn check_answer(call: Call, answer: Answer, expected: u8) -> Result<()> {
         "{call:?} is answered {number} and not {expected}"
     );
     if let Some(fault) = answer.fault {
-        let plain = Fault {
-            layer: layer(number),
-            number,
-            ..Fault::default()
-        };
-        ensure!(fault == plain, "{call:?} is answered {fault:?}");
+        ensure!(
+            fault == plain_fault(number),
+            "{call:?} is answered {fault:?}"
+        );
     }
     Ok(())
 }
@@ -54,7 +43,7 @@ fn limits_told(job: &ClosedJob<Mixed<'_>>, last_row: u8) -> Result<Limits> {
     }
     let above = job.limit(last_row.saturating_add(1));
     ensure!(
-        above == Err(Fault::from(Refusal::NoSuchRow)),
+        above == Err(plain_fault(NO_SUCH_ROW)),
         "{above:?} above the last row"
     );
     Ok(limits)
@@ -127,20 +116,25 @@ fn make<'a>(
     Ok(job)
 }
 
-// Plays a list of calls on a job.
-pub(crate) fn play(drawn: &Drawn, draw: &mut Draw, counts: &mut Counts) -> Result<()> {
+// Plays a list of calls on the job of a number.
+pub(crate) fn play(drawn: &Drawn, number: u32, draw: &mut Draw, counts: &mut Counts) -> Result<()> {
     let judge = Judge::of(drawn)?;
     let mut model = Model::of(&drawn.sheet);
     let mut job = Job::Closed(ClosedJob::open(drawn.sheet, drawn.catalogue()?));
-    ensure!(job.fault().is_none(), "a fault of the opening");
-    for number in 1..=CALLS {
+    ensure!(
+        job.fault().is_none(),
+        "job {number}: a fault of the opening"
+    );
+    for at in 1..=CALLS {
         let call = Call::draw(&judge, &model, draw);
         job = make(&judge, &mut model, draw, counts, job, call).context(format_args!(
-            "call {number}"
+            "job {number}, call {at}"
         ))?;
     }
     if model.running.is_some() {
-        make(&judge, &mut model, draw, counts, job, Call::Close).context("the last close")?;
+        make(&judge, &mut model, draw, counts, job, Call::Close).context(format_args!(
+            "job {number}, the last close"
+        ))?;
     }
     Ok(())
 }
