@@ -199,10 +199,10 @@ def main(words: list[str]) -> int:
         return 2
     try:
         made = write(read_text(Path(words[0]).read_text()))
-    except Refused as why:
+        Path(words[1]).write_bytes(made)
+    except (Refused, OSError, UnicodeDecodeError) as why:
         print(f"{words[0]}: {why}", file=sys.stderr)
         return 1
-    Path(words[1]).write_bytes(made)
     return 0
 
 
