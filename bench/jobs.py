@@ -70,12 +70,13 @@ def drawn(shape: Shape, searches: int) -> str:
     return "\n".join(lines)
 
 
-def counter(places: int, rows: int, budget: int) -> str:
+def counter(places: int, rows: int, budget: int, searches: int) -> str:
     """A job that counts down: each choice costs one less than the one before it, so that a search finds one with about every
-    other step, and learns a ground of one line with about every 64th. Places past the third and rows past the price have no say."""
+    other step, and learns a ground of one line with about every 64th. Places past the third and rows past the price have no
+    say. Each search begins with an empty ledger."""
     lines = head([("at-most", NO_LIMIT)] * rows, places)
     for place in range(1, places + 1):
         step = -(32 ** (place - 1)) if place <= 3 else 1
         base = -31 * step if place <= 3 else 0
         lines += [f"place p{place}", f"ladder 32 {base} {step}" + " 1 0" * rows]
-    return "\n".join([*lines, "search", f"run {budget}", "close"])
+    return "\n".join([*lines, *["search", f"run {budget}", "close", "clear"] * searches])
