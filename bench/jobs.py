@@ -11,12 +11,12 @@ LOOSER = {"at-most": 1, "at-least": -1, "greatest-at-most": 1}
 
 @dataclass(frozen=True)
 class Shape:
-    """A job whose amounts are drawn, and whose limits lie around those of a drawn choice."""
+    """A job whose amounts are drawn, and whose limits are the totals of a drawn choice."""
 
     places: int
     versions: int
     kinds: tuple[str, ...]
-    seed: int
+    sequence: int
 
     @property
     def name(self) -> str:
@@ -34,10 +34,10 @@ SHAPES = (
 
 
 class Draws:
-    """Numbers drawn from a seed; `random` alone is sure to give the same ones in every Python."""
+    """The drawn numbers of a sequence; `random` alone is sure to give the same ones in every Python."""
 
-    def __init__(self, seed: int) -> None:
-        self.draw = random.Random(seed)
+    def __init__(self, sequence: int) -> None:
+        self.draw = random.Random(sequence)
 
     def upto(self, most: int) -> int:
         return 1 + int(self.draw.random() * most)
@@ -49,15 +49,15 @@ def head(limits: list[tuple[str, int]], places: int) -> list[str]:
 
 
 def drawn_limits(shape: Shape, table: list[list[list[int]]], draws: Draws) -> list[tuple[str, int]]:
-    """The totals of a drawn choice, which then keeps them as limits."""
+    """The totals of a drawn choice, which keeps them."""
     choice = [versions[draws.upto(len(versions)) - 1] for versions in table]
     totals = {kind: max if kind == "greatest-at-most" else sum for kind in UNITS}
     return [(kind, totals[kind](it[row] for it in choice)) for row, kind in enumerate(shape.kinds, 1)]
 
 
 def drawn(shape: Shape, searches: int) -> str:
-    """A search is run to its end again and again, with an empty ledger and the limit of row 1 a little looser each time."""
-    draws = Draws(shape.seed)
+    """A search is run as far as it goes, again and again, with an empty ledger and the limit of row 1 a little looser each time."""
+    draws = Draws(shape.sequence)
     mosts = [500, *(5 * UNITS[kind] for kind in shape.kinds)]
     table = [[[draws.upto(most) for most in mosts] for _ in range(shape.versions)] for _ in range(shape.places)]
     limits = drawn_limits(shape, table, draws)
