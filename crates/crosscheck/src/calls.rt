@@ -69,28 +69,36 @@ fn draw_nothing(draw: &mut Draw) -> Call {
     })
 }
 
-// What limits of a row are drawn around: mostly what the middle choice comes to, and for the price also the least that was found last.
-fn draw_total(job: &Drawn, model: &Model, draw: &mut Draw, row: u8) -> i64 {
+// A limit around what a choice comes to in a row, mostly the middle one.
+fn draw_limit(job: &Drawn, draw: &mut Draw, row: u8) -> i64 {
     let versions = if draw.one_in(4) {
         job.draw_choice(draw)
     } else {
         job.middle
     };
-    match model.least {
-        Some(price) if row == 0 && draw.one_in(2) => price,
-        _ => job.total(row, &versions).unwrap_or(0),
+    let total = job.total(row, &versions).unwrap_or(0);
+    draw_around(draw, job.kind(row), total)
+}
+
+// A limit anywhere, or at the end of what is taken.
+fn draw_far(draw: &mut Draw) -> i32 {
+    match draw.below(4) {
+        0 => LIMIT,
+        1 => -LIMIT,
+        _ => draw.between(-LIMIT, LIMIT),
     }
 }
 
-// A limit change that is taken.
+// A limit change that is taken; one of the cap is often right around the least price that was found last.
 fn draw_change(job: &Drawn, model: &Model, draw: &mut Draw) -> Call {
     let row = draw.byte(0, job.sheet.last_row);
-    let total = draw_total(job, model, draw, row);
-    let limit = match draw.below(8) {
-        0 => draw.between(-LIMIT, LIMIT),
-        1 => i32::try_from(total.saturating_add(i64::from(draw.between(-1, 1)))).unwrap_or(0),
-        _ => i32::try_from(draw_around(draw, job.kind(row), total)).unwrap_or(0),
+    let near = if row == 0 { model.least } else { None };
+    let limit = match (near, draw.below(8)) {
+        (_, 0) => i64::from(draw_far(draw)),
+        (Some(price), 1..=4) => price.saturating_add(i64::from(draw.between(-1, 1))),
+        _ => draw_limit(job, draw, row),
     };
+    let limit = i32::try_from(limit).unwrap_or(0);
     Call::Change(row, limit.clamp(-LIMIT, LIMIT))
 }
 
