@@ -24,9 +24,12 @@ struct Layout {
 
 impl Layout {
     fn draw(draw: &mut Draw, places: u8) -> Layout {
-        let first = draw.byte(0, places);
-        let listed = draw.byte(first, places);
-        Layout { first, listed }
+        let one = draw.byte(0, places);
+        let other = draw.byte(0, places);
+        Layout {
+            first: one.min(other),
+            listed: one.max(other),
+        }
     }
 }
 
