@@ -1,9 +1,13 @@
 // Verdicts held against every choice.
+use crate::draws::Draw;
 use crate::grounds::check_ground;
 use crate::judges::Judge;
 use crate::limits::Limits;
 use crate::said::{Best, Said, Verdict};
 use anyhow::{Result, ensure};
+
+// So many choices are drawn at a close.
+const CHOICES: u32 = 8;
 
 // A search makes fewer steps than twice as many as there are part-choices.
 fn check_steps(judge: &Judge<'_>, steps: u32) -> Result<()> {
@@ -26,10 +30,7 @@ fn check_best(judge: &Judge<'_>, limits: &Limits, least: Option<i64>, best: &Bes
         "a choice of {places} places"
     );
     judge.check_choice(limits, versions, *price)?;
-    ensure!(
-        least.is_some_and(|least| least <= *price),
-        "{price} is told, and the least is {least:?}"
-    );
+    judge.check_other(limits, least, versions)?;
     Ok(())
 }
 
@@ -61,4 +62,20 @@ pub(crate) fn check_verdict(
         check_ground(judge.job, &said.limits_closed(limits), ground)?;
     }
     Ok(least)
+}
+
+// Holds a least price against choices that are drawn. How many of them keep the limits.
+pub(crate) fn check_choices(
+    judge: &Judge<'_>,
+    draw: &mut Draw,
+    limits: &Limits,
+    least: Option<i64>,
+) -> Result<u32> {
+    let mut kept: u32 = 0;
+    for _ in 0..CHOICES {
+        let versions = judge.job.draw_choice(draw);
+        let keeps = judge.check_other(limits, least, &versions)?;
+        kept = kept.saturating_add(u32::from(keeps));
+    }
+    Ok(kept)
 }

@@ -1,13 +1,14 @@
 // Lists of calls on a job, each answer and the job after it held against what is expected.
 use crate::answers::{Answer, by_call, by_record};
 use crate::calls::Call;
-use crate::closes::check_verdict;
+use crate::closes::{check_choices, check_verdict};
 use crate::counts::Counts;
 use crate::draws::Draw;
 use crate::grounds::check_lists;
 use crate::jobs::{Drawn, Mixed};
 use crate::judges::Judge;
 use crate::models::{Model, plain_fault};
+use crate::said::Said;
 use crate::states::{check_closed, check_state, said_by};
 use anyhow::{Context, Result, bail, ensure};
 use chooser::{ClosedJob, Job, choose};
@@ -48,22 +49,30 @@ fn check_answer(call: Call, answer: Answer, expected: u8) -> Result<()> {
 }
 
 impl<'a> Trial<'a> {
+    // Holds a closing ground, if one is told, against limits at which it stands.
+    fn check_closing(&mut self, said: &Said) -> Result<()> {
+        let Some(ground) = &said.ground else {
+            return Ok(());
+        };
+        let limits = said.limits_closed(&self.model.limits);
+        let lists = check_lists(&self.judge, &mut self.draw, &limits, ground)?;
+        self.counts.grounds.add(self.judge.job, ground, lists);
+        Ok(())
+    }
+
     // Holds the verdict of a search that was just closed against the runs before it, and against every choice.
     fn check_close(&mut self, job: &Job<Mixed<'a>>) -> Result<()> {
         let Job::Closed(job) = job else {
             bail!("the job is running after its close");
         };
         let said = said_by(job)?.context("no verdict after a close")?;
-        self.counts.verdicts.add(&said, self.model.held);
-        self.model.close(&said)?;
         let limits = self.model.limits;
-        self.model.least = check_verdict(&self.judge, &limits, &said)?;
-        if let Some(ground) = &said.ground {
-            let closed = said.limits_closed(&limits);
-            let lists = check_lists(&self.judge, &mut self.draw, &closed, ground)?;
-            self.counts.grounds.add(self.judge.job, ground, lists);
-        }
-        Ok(())
+        let least = check_verdict(&self.judge, &limits, &said)?;
+        let kept = check_choices(&self.judge, &mut self.draw, &limits, least)?;
+        self.counts.verdicts.add(&said, self.model.held, kept);
+        self.model.close(&said)?;
+        self.model.least = least;
+        self.check_closing(&said)
     }
 
     // Makes a call, by the job's own or by a record, and holds what comes of it against what is expected.

@@ -19,6 +19,8 @@ pub(crate) struct VerdictCounts {
     // Searches that began with learned grounds.
     with_grounds: u32,
     steps: u32,
+    // Choices that were drawn at a close and keep the limits.
+    kept: u32,
 }
 
 // What closing grounds were met, with their lines by kind, and lists of limits that were tried on one.
@@ -30,8 +32,8 @@ pub(crate) struct GroundCounts {
 }
 
 impl VerdictCounts {
-    // What is said of a search that began with so many learned grounds.
-    pub(crate) fn add(&mut self, said: &Said, began: usize) {
+    // What is said of a search that began with so many learned grounds, so many drawn choices keeping its limits.
+    pub(crate) fn add(&mut self, said: &Said, began: usize, kept: u32) {
         let with_best = said.best.is_some();
         match said.verdict {
             Verdict::Least => more(&mut self.least, 1),
@@ -48,6 +50,7 @@ impl VerdictCounts {
         }
         one_if(&mut self.with_grounds, began > 0);
         more(&mut self.steps, said.steps);
+        more(&mut self.kept, kept);
     }
 
     pub(crate) fn print(&self, rt: &impl Print) -> io::Result<()> {
@@ -62,7 +65,8 @@ impl VerdictCounts {
             self.unfinished, self.unfinished_with_best
         )?;
         println!(rt; "BEGUN WITH GROUNDS {}", self.with_grounds)?;
-        println!(rt; "STEPS {}", self.steps)
+        println!(rt; "STEPS {}", self.steps)?;
+        println!(rt; "DRAWN CHOICES THAT KEEP THE LIMITS {}", self.kept)
     }
 }
 
