@@ -8,7 +8,7 @@ use rules::{GREATEST_LIMIT, GREATEST_ROW, Kind, MOST_PLACES, MOST_ROWS, Row, She
 use std::alloc::{AllocError, Global};
 
 // The third place has at most so many versions.
-const MOST_COUNT: u8 = 5;
+const MOST_COUNT: u8 = 8;
 
 // A digit has so many versions.
 const LEAST_DIGITS: u8 = 24;
