@@ -1,8 +1,9 @@
 // Calls, and which one is made next.
 use crate::draws::Draw;
-use crate::jobs::Judge;
+use crate::jobs::Drawn;
 use crate::limits::draw_around;
-use crate::models::{Made, Model};
+use crate::made::Made;
+use crate::models::Model;
 use rules::{GREATEST_LIMIT, MOST_STEPS, Request};
 
 // A call, or a record that asks for none.
@@ -38,11 +39,19 @@ impl Call {
         }
     }
 
+    // The code of a call, 0 for a record that asks for none.
+    pub(crate) fn code(self) -> usize {
+        match self {
+            Call::Nothing(_) => 0,
+            call => usize::from(call.request().code),
+        }
+    }
+
     // The next call on a job.
-    pub(crate) fn draw(judge: &Judge<'_>, model: &Model, draw: &mut Draw) -> Call {
+    pub(crate) fn draw(job: &Drawn, model: &Model, draw: &mut Draw) -> Call {
         match &model.running {
-            None => draw_on_closed(judge, model, draw),
-            Some(made) => draw_in_search(judge, made, draw),
+            None => draw_on_closed(job, model, draw),
+            Some(made) => draw_in_search(job, made, draw),
         }
     }
 }
@@ -60,28 +69,36 @@ fn draw_nothing(draw: &mut Draw) -> Call {
     })
 }
 
-// What limits of a row are drawn around: mostly what the middle choice comes to, and for the price also the least that was found last.
-fn draw_total(judge: &Judge<'_>, model: &Model, draw: &mut Draw, row: u8) -> i64 {
+// A limit around what a choice comes to in a row, mostly the middle one.
+fn draw_limit(job: &Drawn, draw: &mut Draw, row: u8) -> i64 {
     let versions = if draw.one_in(4) {
-        judge.draw_choice(draw)
+        job.draw_choice(draw)
     } else {
-        judge.job.middle
+        job.middle
     };
-    match model.least {
-        Some(price) if row == 0 && draw.one_in(2) => price,
-        _ => judge.total(row, &versions).unwrap_or(0),
+    let total = job.total(row, &versions).unwrap_or(0);
+    draw_around(draw, job.kind(row), total)
+}
+
+// A limit anywhere, or at the end of what is taken.
+fn draw_far(draw: &mut Draw) -> i32 {
+    match draw.below(4) {
+        0 => LIMIT,
+        1 => -LIMIT,
+        _ => draw.between(-LIMIT, LIMIT),
     }
 }
 
-// A limit change that is taken.
-fn draw_change(judge: &Judge<'_>, model: &Model, draw: &mut Draw) -> Call {
-    let row = draw.byte(0, judge.job.sheet.last_row);
-    let total = draw_total(judge, model, draw, row);
-    let limit = match draw.below(8) {
-        0 => draw.between(-LIMIT, LIMIT),
-        1 => i32::try_from(total.saturating_add(i64::from(draw.between(-1, 1)))).unwrap_or(0),
-        _ => i32::try_from(draw_around(draw, judge.job.kind(row), total)).unwrap_or(0),
+// A limit change that is taken; one of the cap is often right around the least price that was found last.
+fn draw_change(job: &Drawn, model: &Model, draw: &mut Draw) -> Call {
+    let row = draw.byte(0, job.sheet.last_row);
+    let near = if row == 0 { model.least } else { None };
+    let limit = match (near, draw.below(8)) {
+        (_, 0) => i64::from(draw_far(draw)),
+        (Some(price), 1..=4) => price.saturating_add(i64::from(draw.between(-1, 1))),
+        _ => draw_limit(job, draw, row),
     };
+    let limit = i32::try_from(limit).unwrap_or(0);
     Call::Change(row, limit.clamp(-LIMIT, LIMIT))
 }
 
@@ -96,8 +113,8 @@ fn draw_beyond(draw: &mut Draw) -> i32 {
 }
 
 // A limit change that is refused, on a row above the last, or on any row with a limit beyond.
-fn draw_refused_change(judge: &Judge<'_>, draw: &mut Draw) -> Call {
-    let last_row = judge.job.sheet.last_row;
+fn draw_refused_change(job: &Drawn, draw: &mut Draw) -> Call {
+    let last_row = job.sheet.last_row;
     let above = last_row.saturating_add(1);
     match draw.below(4) {
         0 => Call::Change(above, 0),
@@ -106,14 +123,14 @@ fn draw_refused_change(judge: &Judge<'_>, draw: &mut Draw) -> Call {
     }
 }
 
-fn draw_on_closed(judge: &Judge<'_>, model: &Model, draw: &mut Draw) -> Call {
+fn draw_on_closed(job: &Drawn, model: &Model, draw: &mut Draw) -> Call {
     match draw.below(24) {
         0 => Call::Clear,
         1 => draw_nothing(draw),
-        2 => draw_refused_change(judge, draw),
+        2 => draw_refused_change(job, draw),
         3 => Call::Run(draw.between(-1, 5)),
         4 => Call::Close,
-        5..=12 => draw_change(judge, model, draw),
+        5..=12 => draw_change(job, model, draw),
         _ => Call::Search,
     }
 }
@@ -142,12 +159,12 @@ fn draw_refused_budget(made: &Made, draw: &mut Draw) -> Call {
 }
 
 // A call that only a closed job allows, sound or not.
-fn draw_for_closed(judge: &Judge<'_>, draw: &mut Draw) -> Call {
+fn draw_for_closed(job: &Drawn, draw: &mut Draw) -> Call {
     match draw.below(4) {
         0 => Call::Clear,
         1 => Call::Search,
         2 => Call::Change(0, 0),
-        _ => draw_refused_change(judge, draw),
+        _ => draw_refused_change(job, draw),
     }
 }
 
@@ -160,11 +177,11 @@ fn draw_close(made: &Made, draw: &mut Draw) -> Call {
     }
 }
 
-fn draw_in_search(judge: &Judge<'_>, made: &Made, draw: &mut Draw) -> Call {
+fn draw_in_search(job: &Drawn, made: &Made, draw: &mut Draw) -> Call {
     match draw.below(20) {
         0 => draw_nothing(draw),
         1 => draw_refused_budget(made, draw),
-        2 => draw_for_closed(judge, draw),
+        2 => draw_for_closed(job, draw),
         3..=11 => draw_budget(made, draw),
         _ => draw_close(made, draw),
     }

@@ -3,13 +3,12 @@
 // which has a line for each of those rows and one for the price.
 use crate::draws::Draw;
 use crate::jobs::{Drawn, LadderPlace};
-use anyhow::Result;
 use catalogue::Rung;
 use rules::{GREATEST_LIMIT, GREATEST_ROW, Kind, MOST_PLACES, MOST_ROWS, Row, Sheet};
-use std::alloc::Global;
+use std::alloc::{AllocError, Global};
 
 // The third place has at most so many versions.
-const MOST_COUNT: u8 = 5;
+const MOST_COUNT: u8 = 8;
 
 // A digit has so many versions.
 const LEAST_DIGITS: u8 = 24;
@@ -56,21 +55,14 @@ fn draw_sheet(draw: &mut Draw, last_row: u8) -> Sheet {
     }
 }
 
-pub(crate) fn draw_job(alloc: Global, draw: &mut Draw) -> Result<Drawn> {
+pub(crate) fn draw_job(alloc: Global, draw: &mut Draw) -> Result<Drawn, AllocError> {
     let count = draw.byte(1, MOST_COUNT);
     let low = draw.byte(LEAST_DIGITS, MOST_DIGITS);
     let high = draw.byte(LEAST_DIGITS, MOST_DIGITS);
-    let mut job = Drawn {
-        sheet: draw_sheet(draw, count.saturating_sub(1)),
-        kinds: [Kind::SumAtMost; MOST_ROWS],
-        middle: [1; MOST_PLACES],
-        first: Vec::new(alloc),
-        listed: Vec::new(alloc),
-        fields: Vec::new(alloc),
-        last: Vec::new(alloc),
-    };
-    job.first.push(forbidden(draw, count))?;
-    job.last.push(digit(low, 1))?;
-    job.last.push(digit(high, i32::from(low)))?;
+    let sheet = draw_sheet(draw, count.saturating_sub(1));
+    let mut job = Drawn::of(alloc, sheet, [Kind::SumAtMost; MOST_ROWS]);
+    job.add_first(alloc, forbidden(draw, count))?;
+    job.add_last(alloc, digit(low, 1))?;
+    job.add_last(alloc, digit(high, i32::from(low)))?;
     Ok(job)
 }

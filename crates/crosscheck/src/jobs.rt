@@ -1,11 +1,16 @@
 // Jobs as they are drawn.
-use crate::draws::Draw;
-use crate::limits::{Limits, breaks};
-use catalogue::{Beside, Catalogue, Ladder, Listed, Listing, Rung};
+mod choices;
+
+use crate::limits::Limits;
+use catalogue::{Beside, Ladder, Listed, Listing, Rung};
 use rules::{Kind, MOST_PLACES, MOST_ROWS, Refusal, Sheet};
+use std::alloc::{AllocError, Global};
 
 // Ladders, listed places behind them, and ladders again.
 pub(crate) type Mixed<'a> = Beside<Beside<Ladder, Listed<'a>>, Ladder>;
+
+// The amounts of a version, by row; those past the last row say nothing.
+pub(crate) type Amounts = [i32; MOST_ROWS];
 
 // A place of a ladder.
 #[derive(Clone, Copy)]
@@ -28,6 +33,8 @@ pub(crate) struct Drawn {
     pub(crate) kinds: [Kind; MOST_ROWS],
     // Limits are mostly drawn around what this choice comes to.
     pub(crate) middle: [u8; MOST_PLACES],
+    // The versions of each place, which the catalogue is to show: by them choices are judged here.
+    pub(crate) table: Vec<Vec<Amounts>>,
     pub(crate) first: Vec<LadderPlace>,
     pub(crate) listed: Vec<ListedPlace>,
     pub(crate) fields: Vec<u8>,
@@ -52,10 +59,62 @@ fn add_listed(listing: &mut Listing, place: ListedPlace) -> Result<(), Refusal> 
     Ok(())
 }
 
+impl LadderPlace {
+    // The amounts of a version: each is its rung's step higher than that of the version before.
+    fn amounts(&self, version: u8) -> Amounts {
+        let steps = i32::from(version).saturating_sub(1);
+        let mut amounts = [0; MOST_ROWS];
+        for (amount, rung) in amounts.iter_mut().zip(&self.rungs) {
+            *amount = rung.base.saturating_add(rung.step.saturating_mul(steps));
+        }
+        amounts
+    }
+
+    // The amounts of all versions.
+    pub(crate) fn versions(&self, alloc: Global) -> Result<Vec<Amounts>, AllocError> {
+        let mut versions = Vec::new(alloc);
+        for version in 1..=self.count {
+            versions.push(self.amounts(version))?;
+        }
+        Ok(versions)
+    }
+}
+
 impl Drawn {
+    // A job with no place yet.
+    pub(crate) fn of(alloc: Global, sheet: Sheet, kinds: [Kind; MOST_ROWS]) -> Drawn {
+        Drawn {
+            sheet,
+            kinds,
+            middle: [1; MOST_PLACES],
+            table: Vec::new(alloc),
+            first: Vec::new(alloc),
+            listed: Vec::new(alloc),
+            fields: Vec::new(alloc),
+            last: Vec::new(alloc),
+        }
+    }
+
     // How many rows there are.
     pub(crate) fn rows(&self) -> u8 {
         self.sheet.last_row.saturating_add(1)
+    }
+
+    // Adds a ladder's place behind all others: in front of the listed ones or behind them.
+    pub(crate) fn add_first(
+        &mut self,
+        alloc: Global,
+        place: LadderPlace,
+    ) -> Result<(), AllocError> {
+        self.table.push(place.versions(alloc)?)?;
+        self.first.push(place)?;
+        Ok(())
+    }
+
+    pub(crate) fn add_last(&mut self, alloc: Global, place: LadderPlace) -> Result<(), AllocError> {
+        self.table.push(place.versions(alloc)?)?;
+        self.last.push(place)?;
+        Ok(())
     }
 
     // The listing of the listed places.
@@ -90,68 +149,5 @@ impl Drawn {
             row.limit = i32::try_from(*limit).ok()?;
         }
         Some(sheet)
-    }
-}
-
-// A job with its catalogue, by which choices are judged here: neither the chooser nor the program that tries every choice has a part in it.
-#[derive(Drop)]
-pub(crate) struct Judge<'a> {
-    pub(crate) job: &'a Drawn,
-    pub(crate) catalogue: Mixed<'a>,
-}
-
-impl<'a> Judge<'a> {
-    pub(crate) fn of(job: &'a Drawn) -> Result<Judge<'a>, Refusal> {
-        let catalogue = job.catalogue()?;
-        Ok(Judge { job, catalogue })
-    }
-
-    // What the amounts of a row come to, with the version of each place, or none where there is no such amount.
-    pub(crate) fn total(&self, row: u8, versions: &[u8]) -> Option<i64> {
-        let mut total = None;
-        for (place, version) in (1..=self.job.sheet.places).zip(versions) {
-            let amount = self.catalogue.amount(row, place, *version)?;
-            total = Some(match (total, self.job.kind(row)) {
-                (None, _) => amount,
-                (Some(total), Kind::GreatestAtMost) => amount.max(total),
-                (Some(total), Kind::SumAtMost | Kind::SumAtLeast) => amount.saturating_add(total),
-            });
-        }
-        total
-    }
-
-    // Whether a choice keeps the limit of a row.
-    fn keeps_row(&self, row: u8, versions: &[u8], limit: i64) -> bool {
-        match self.total(row, versions) {
-            Some(total) => !breaks(self.job.kind(row), total, limit),
-            None => false,
-        }
-    }
-
-    // Whether a choice keeps the limits.
-    pub(crate) fn keeps(&self, versions: &[u8], limits: &Limits) -> bool {
-        (0..=self.job.sheet.last_row).all(|row| self.keeps_row(row, versions, limits.at(row)))
-    }
-
-    // A choice at random, with version 1 past the last place.
-    pub(crate) fn draw_choice(&self, draw: &mut Draw) -> [u8; MOST_PLACES] {
-        let mut versions = [1; MOST_PLACES];
-        for (place, version) in (1..=self.job.sheet.places).zip(versions.iter_mut()) {
-            *version = draw.byte(1, self.catalogue.versions(place).unwrap_or(1));
-        }
-        versions
-    }
-
-    // How many part-choices there are.
-    pub(crate) fn part_choices(&self) -> u64 {
-        let mut ways: u64 = 1;
-        let mut all: u64 = 1;
-        let places = usize::from(self.job.sheet.places);
-        for place in self.job.sheet.order.iter().take(places).rev() {
-            let versions = self.catalogue.versions(*place).unwrap_or(1);
-            ways = ways.saturating_mul(u64::from(versions));
-            all = all.saturating_add(ways);
-        }
-        all
     }
 }

@@ -5,16 +5,24 @@
 
 mod answers;
 mod calls;
+mod catalogues;
 mod closes;
 mod counts;
 mod draws;
 mod filling;
+mod frames;
 mod grounds;
 mod jobs;
+mod judges;
 mod limits;
+mod made;
 mod mixed;
 mod models;
+mod places;
 mod plays;
+mod said;
+mod spans;
+mod states;
 
 use anyhow::{Context, Result};
 use counts::Counts;
@@ -31,25 +39,26 @@ const FILLING: u32 = 30;
 // The job of a number.
 fn drawn(alloc: Global, draw: &mut Draw, number: u32) -> Result<Drawn> {
     if number % FILLING == 0 {
-        filling::draw_job(alloc, draw)
+        Ok(filling::draw_job(alloc, draw)?)
     } else {
         mixed::draw_job(alloc, draw)
     }
 }
 
-// Draws a job and plays a list of calls on it.
-fn try_job(alloc: Global, counts: &mut Counts, number: u32) -> Result<()> {
+// Draws a job and plays a list of calls on it. What was met so far, and here.
+fn try_job(alloc: Global, mut counts: Counts, number: u32) -> Result<Counts> {
     let mut draw = Draw::of(number);
-    let job = drawn(alloc, &mut draw, number).context(format_args!("job {number}"))?;
-    plays::play(&job, number, &mut draw, counts)
+    let job = drawn(alloc, &mut draw, number)?;
+    counts.jobs.add(&job);
+    plays::play(alloc, &job, draw, counts)
 }
 
 fn run(rt: &HostRuntime) -> Result<()> {
     let mut counts = Counts::default();
     for number in 1..=JOBS {
-        try_job(rt.alloc(), &mut counts, number)?;
+        let tried = try_job(rt.alloc(), counts, number);
+        counts = tried.context(format_args!("job {number}"))?;
     }
-    println!(rt; "JOBS {JOBS}")?;
     counts.print(rt)?;
     Ok(())
 }

@@ -1,10 +1,11 @@
 // What is expected of a job's answers, kept apart from the job.
 use crate::calls::Call;
 use crate::limits::Limits;
-use anyhow::{Result, bail, ensure};
-use chooser::{Seen, Told};
-use rules::{Fault, GREATEST_LIMIT, MOST_GROUNDS, MOST_STEPS, Sheet};
-use search::{Ran, Why};
+use crate::made::Made;
+use crate::said::{Said, Verdict};
+use anyhow::{Context, Result, ensure};
+use rules::{Fault, GREATEST_LIMIT, MOST_GROUNDS, MOST_LINES, MOST_STEPS, Sheet};
+use search::Ran;
 
 // The numbers of the refusals that calls meet.
 const NO_CALL: u8 = 5;
@@ -36,113 +37,25 @@ pub(crate) fn plain_fault(number: u8) -> Fault {
     }
 }
 
-// What the runs of a search have come to. A run by a record doesn't tell its steps: so they lie between two numbers, and are known where these
-// are the same.
-#[derive(Clone, Copy)]
-pub(crate) struct Made {
-    pub(crate) least: u32,
-    pub(crate) most: u32,
-    // Why the search stands where it does, where that is known.
-    why: Option<Why>,
-}
-
-// What a closed search said: its steps, and how many learned grounds the job held.
-#[derive(Clone, Copy, Debug, PartialEq, Eq)]
-pub(crate) struct Said {
-    steps: u32,
-    held: usize,
-}
-
 // The limits in force, the running search, and the last verdict, none while the job is unsearched.
 #[derive(Clone, Copy)]
 pub(crate) struct Model {
-    last_row: u8,
+    places: u8,
+    pub(crate) last_row: u8,
     pub(crate) limits: Limits,
     pub(crate) running: Option<Made>,
     pub(crate) said: Option<Said>,
-    // The learned grounds that are held while no search is running.
-    held: usize,
+    // The learned grounds that were held when no search was running.
+    pub(crate) held: usize,
     // The least price that was last found.
     pub(crate) least: Option<i64>,
-}
-
-impl Said {
-    // What a verdict says.
-    pub(crate) fn of(seen: &Seen) -> Said {
-        Said {
-            steps: seen.steps,
-            held: seen.held,
-        }
-    }
-}
-
-// Whether a search that stopped like that can say this.
-fn fits(why: Why, says: &Told) -> bool {
-    match (why, says) {
-        (Why::HasEnded, Told::Least(..) | Told::Nothing(..)) => true,
-        (Why::IsFull, Told::Full(..)) => true,
-        (Why::BudgetUsed, Told::Unfinished(..)) => true,
-        _ => false,
-    }
-}
-
-impl Made {
-    // No run yet.
-    fn nothing() -> Made {
-        Made {
-            least: 0,
-            most: 0,
-            why: None,
-        }
-    }
-
-    // Whether the search can make no step more.
-    fn is_over(&self) -> bool {
-        matches!(self.why, Some(Why::HasEnded | Why::IsFull))
-    }
-
-    // After a run that told what it came to.
-    fn after(self, budget: u32, ran: Ran) -> Result<Made> {
-        ensure!(
-            ran.made <= budget,
-            "{} steps in a budget of {budget}",
-            ran.made
-        );
-        ensure!(
-            ran.made == budget || ran.why != Why::BudgetUsed,
-            "a budget of {budget} is used after {} steps",
-            ran.made
-        );
-        if self.is_over() {
-            ensure!(
-                ran.made == 0 && self.why == Some(ran.why),
-                "a search that was over goes on: {ran:?}"
-            );
-        }
-        Ok(Made {
-            least: self.least.saturating_add(ran.made),
-            most: self.most.saturating_add(ran.made),
-            why: Some(ran.why),
-        })
-    }
-
-    // After a run that told nothing of that.
-    fn after_record(self, budget: u32) -> Made {
-        if self.is_over() || budget == 0 {
-            return self;
-        }
-        Made {
-            most: self.most.saturating_add(budget),
-            why: None,
-            ..self
-        }
-    }
 }
 
 impl Model {
     // A job as it is opened.
     pub(crate) fn of(sheet: &Sheet) -> Model {
         Model {
+            places: sheet.places,
             last_row: sheet.last_row,
             limits: Limits::of(sheet),
             running: None,
@@ -197,9 +110,7 @@ impl Model {
 
     // After a run that was taken.
     fn ran(&mut self, budget: u32, ran: Option<Ran>) -> Result<()> {
-        let Some(made) = self.running else {
-            bail!("a run on a closed job");
-        };
+        let made = self.running.context("a run on a closed job")?;
         self.running = Some(match ran {
             Some(ran) => made.after(budget, ran)?,
             None => made.after_record(budget),
@@ -207,29 +118,59 @@ impl Model {
         Ok(())
     }
 
-    // After a close: the verdict fits the runs before it, and the learned grounds that were held.
-    pub(crate) fn close(&mut self, seen: &Seen) -> Result<()> {
-        let Some(made) = self.running else {
-            bail!("a close of a closed job");
-        };
-        let Said { steps, held } = Said::of(seen);
-        let (least, most) = (made.least, made.most);
+    // A place is opened only as a ground is learned, and a search that has ended has opened all. A choice takes a step more.
+    fn check_end(&self, learned: usize, said: &Said) -> Result<()> {
+        let places = usize::from(self.places);
+        let least = places.saturating_add(usize::from(said.best.is_some()));
         ensure!(
-            least <= steps && steps <= most,
-            "{steps} steps, not from {least} to {most}"
+            places <= learned && least <= said.steps as usize,
+            "an end of {places} places after {} steps with {learned} grounds learned",
+            said.steps
         );
-        let learned = held.checked_sub(self.held);
+        Ok(())
+    }
+
+    // A ledger that lacks space for a ground has as many as there may be, or would have too many lines with one more, which has a line for
+    // each row and position at most.
+    fn check_full(&self, held: usize) -> Result<()> {
+        let rows = usize::from(self.last_row).saturating_add(1);
+        let lines = rows.saturating_mul(usize::from(self.places));
+        let more = held.saturating_add(1);
         ensure!(
-            held <= MOST_GROUNDS && learned.is_some_and(|learned| learned <= steps as usize),
-            "{held} grounds after {} and {steps} steps",
-            self.held
+            held == MOST_GROUNDS || more.saturating_mul(lines) > MOST_LINES,
+            "the ledger is full with {held} grounds"
         );
-        if let Some(why) = made.why {
-            ensure!(fits(why, &seen.says), "the verdict doesn't fit {why:?}");
+        Ok(())
+    }
+
+    // The learned grounds that a verdict tells are those held before and some more, each learned by a step.
+    fn check_held(&self, said: &Said) -> Result<()> {
+        let learned = said
+            .held
+            .checked_sub(self.held)
+            .context("grounds are lost")?;
+        ensure!(
+            said.held <= MOST_GROUNDS && learned <= said.steps as usize,
+            "{} grounds after {} and {} steps",
+            said.held,
+            self.held,
+            said.steps
+        );
+        match said.verdict {
+            Verdict::Least | Verdict::Nothing => self.check_end(learned, said),
+            Verdict::Full => self.check_full(said.held),
+            Verdict::Unfinished => Ok(()),
         }
+    }
+
+    // After a close: the verdict fits the runs before it, and the learned grounds that were held.
+    pub(crate) fn close(&mut self, said: &Said) -> Result<()> {
+        let made = self.running.context("a close of a closed job")?;
+        made.check(said)?;
+        self.check_held(said)?;
         self.running = None;
-        self.said = Some(Said::of(seen));
-        self.held = held;
+        self.said = Some(*said);
+        self.held = said.held;
         Ok(())
     }
 }

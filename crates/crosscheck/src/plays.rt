@@ -1,22 +1,35 @@
 // Lists of calls on a job, each answer and the job after it held against what is expected.
 use crate::answers::{Answer, by_call, by_record};
 use crate::calls::Call;
-use crate::closes::check_verdict;
+use crate::closes::{check_choices, check_verdict};
 use crate::counts::Counts;
 use crate::draws::Draw;
-use crate::jobs::{Drawn, Judge, Mixed};
-use crate::limits::Limits;
-use crate::models::{Model, NO_SUCH_ROW, Said, plain_fault};
-use anyhow::{Context, Result, anyhow, bail, ensure};
-use chooser::{ClosedJob, Job};
-use rules::Fault;
+use crate::grounds::check_lists;
+use crate::jobs::{Drawn, Mixed};
+use crate::judges::Judge;
+use crate::models::{Model, plain_fault};
+use crate::said::Said;
+use crate::states::{check_closed, check_state, said_by};
+use anyhow::{Context, Result, bail, ensure};
+use chooser::{ClosedJob, Job, choose};
+use rules::CallRecord;
+use std::alloc::Global;
 
 // So many calls are made on a job, and one more that closes it where a search is running.
 const CALLS: u32 = 40;
 
-// What a job that was opened without fault tells.
-pub(crate) fn told<T: Drop>(told: Result<T, Fault>) -> Result<T> {
-    told.map_err(|fault| anyhow!("a fault {}", fault.number))
+// The answer of a record before it is played: no call is answered so.
+const NO_ANSWER: u8 = u8::MAX;
+
+// A job on which calls are made: what is expected of it, what is drawn, and what was met.
+#[derive(Drop)]
+struct Trial<'a> {
+    judge: Judge<'a>,
+    model: Model,
+    draw: Draw,
+    counts: Counts,
+    // The calls so far, with their answers.
+    records: Vec<CallRecord>,
 }
 
 // Holds an answer against the number that is expected.
@@ -35,106 +48,112 @@ fn check_answer(call: Call, answer: Answer, expected: u8) -> Result<()> {
     Ok(())
 }
 
-// The limits in force, as the job tells them.
-fn limits_told(job: &ClosedJob<Mixed<'_>>, last_row: u8) -> Result<Limits> {
-    let mut limits = Limits::none();
-    for row in 0..=last_row {
-        limits = limits.with(row, told(job.limit(row))?);
+impl<'a> Trial<'a> {
+    // Holds a closing ground, if one is told, against limits at which it stands.
+    fn check_closing(&mut self, said: &Said) -> Result<()> {
+        let Some(ground) = &said.ground else {
+            return Ok(());
+        };
+        let limits = said.limits_closed(&self.model.limits);
+        let lists = check_lists(&self.judge, &mut self.draw, &limits, ground)?;
+        self.counts.grounds.add(self.judge.job, ground, lists);
+        Ok(())
     }
-    let above = job.limit(last_row.saturating_add(1));
-    ensure!(
-        above == Err(plain_fault(NO_SUCH_ROW)),
-        "{above:?} above the last row"
-    );
-    Ok(limits)
-}
 
-// Holds a closed job against what is expected of it.
-fn check_closed(judge: &Judge<'_>, model: &Model, job: &ClosedJob<Mixed<'_>>) -> Result<()> {
-    let limits = limits_told(job, judge.job.sheet.last_row)?;
-    ensure!(limits == model.limits, "the limits are {limits:?}");
-    let said = told(job.verdict())?.map(|seen| Said::of(&seen));
-    ensure!(
-        said == model.said,
-        "the verdict is {said:?} and not {:?}",
-        model.said
-    );
-    Ok(())
-}
+    // Holds the verdict of a search that was just closed against the runs before it, and against every choice.
+    fn check_close(&mut self, job: &Job<Mixed<'a>>) -> Result<()> {
+        let Job::Closed(job) = job else {
+            bail!("the job is running after its close");
+        };
+        let said = said_by(job)?.context("no verdict after a close")?;
+        let limits = self.model.limits;
+        let least = check_verdict(&self.judge, &limits, &said)?;
+        let kept = check_choices(&self.judge, &mut self.draw, &limits, least)?;
+        self.counts.verdicts.add(&said, self.model.held, kept);
+        self.model.close(&said)?;
+        self.model.least = least;
+        self.check_closing(&said)
+    }
 
-// Holds the state of a job against what is expected of it.
-fn check_state(judge: &Judge<'_>, model: &Model, job: &Job<Mixed<'_>>) -> Result<()> {
-    match (job, &model.running) {
-        (Job::Closed(job), None) => check_closed(judge, model, job),
-        (Job::Running(_), Some(_)) => Ok(()),
-        (Job::Closed(_), Some(_)) => bail!("the job is closed"),
-        (Job::Running(_), None) => bail!("the job is running"),
+    // Makes a call, by the job's own or by a record, and holds what comes of it against what is expected.
+    fn make(&mut self, job: Job<Mixed<'a>>, call: Call, expected: u8) -> Result<Job<Mixed<'a>>> {
+        let (job, answer) = if self.draw.one_in(2) {
+            by_record(job, call)
+        } else {
+            by_call(job, call)
+        };
+        check_answer(call, answer, expected)?;
+        let counts = &mut self.counts.calls;
+        counts.add(self.judge.job, &self.model, call, expected);
+        match (call, expected) {
+            (Call::Close, 0) => self.check_close(&job)?,
+            (_, 0) => self.model.take(call, answer.ran)?,
+            _ => {}
+        }
+        check_state(&self.model, &job)?;
+        Ok(job)
+    }
+
+    // Draws a call and makes it.
+    fn make_next(&mut self, job: Job<Mixed<'a>>) -> Result<Job<Mixed<'a>>> {
+        let call = Call::draw(self.judge.job, &self.model, &mut self.draw);
+        let answer = self.model.answer(call);
+        let request = call.request();
+        self.records.push(CallRecord { request, answer })?;
+        let made = self.make(job, call, answer);
+        made.context(format_args!("call {}", self.records.len()))
+    }
+
+    // Opens the job and makes all calls. A search that is running then is closed.
+    fn make_all(&mut self) -> Result<()> {
+        let drawn = self.judge.job;
+        let mut job = Job::Closed(ClosedJob::open(drawn.sheet, drawn.catalogue()?));
+        check_state(&self.model, &job)?;
+        for _ in 0..CALLS {
+            job = self.make_next(job)?;
+        }
+        if self.model.running.is_some() {
+            self.make(job, Call::Close, 0).context("the last close")?;
+        }
+        Ok(())
+    }
+
+    // The same calls, as records without an answer.
+    fn unanswered(&self, alloc: Global) -> Result<Vec<CallRecord>> {
+        let mut records = Vec::new(alloc);
+        for record in &self.records {
+            records.push(CallRecord {
+                answer: NO_ANSWER,
+                ..*record
+            })?;
+        }
+        Ok(records)
+    }
+
+    // Plays the same calls once more, as one list of records: they lead to the same answers and to the same job.
+    fn check_list(&self, alloc: Global) -> Result<()> {
+        let drawn = self.judge.job;
+        let mut records = self.unanswered(alloc)?;
+        let job = choose(drawn.sheet, drawn.catalogue()?, records.as_mut_slice());
+        ensure!(
+            records.as_slice() == self.records.as_slice(),
+            "the list is answered {:?}",
+            records.as_slice()
+        );
+        check_closed(&self.model, &job).context("the list")
     }
 }
 
-// Holds the verdict of a search that was just closed against the runs before it, and against every choice.
-fn check_close(
-    judge: &Judge<'_>,
-    model: &mut Model,
-    draw: &mut Draw,
-    counts: &mut Counts,
-    job: &Job<Mixed<'_>>,
-) -> Result<()> {
-    let Job::Closed(job) = job else {
-        bail!("the job is running after its close");
+// Plays a list of calls on a job. What was met so far, and here.
+pub(crate) fn play(alloc: Global, job: &Drawn, draw: Draw, counts: Counts) -> Result<Counts> {
+    let mut trial = Trial {
+        judge: Judge::of(job)?,
+        model: Model::of(&job.sheet),
+        draw,
+        counts,
+        records: Vec::new(alloc),
     };
-    let seen = told(job.verdict())?.context("no verdict after a close")?;
-    model.close(&seen)?;
-    let limits = limits_told(job, judge.job.sheet.last_row)?;
-    model.least = check_verdict(judge, draw, counts, &limits, &seen)?;
-    Ok(())
-}
-
-// Makes a call, by the job's own or by a record, and holds what comes of it against what is expected.
-fn make<'a>(
-    judge: &Judge<'_>,
-    model: &mut Model,
-    draw: &mut Draw,
-    counts: &mut Counts,
-    job: Job<Mixed<'a>>,
-    call: Call,
-) -> Result<Job<Mixed<'a>>> {
-    let expected = model.answer(call);
-    let (job, answer) = if draw.one_in(2) {
-        by_record(job, call)
-    } else {
-        by_call(job, call)
-    };
-    counts.answered(answer.number);
-    check_answer(call, answer, expected)?;
-    match (call, expected) {
-        (Call::Close, 0) => check_close(judge, model, draw, counts, &job)?,
-        (_, 0) => model.take(call, answer.ran)?,
-        _ => {}
-    }
-    check_state(judge, model, &job)?;
-    Ok(job)
-}
-
-// Plays a list of calls on the job of a number.
-pub(crate) fn play(drawn: &Drawn, number: u32, draw: &mut Draw, counts: &mut Counts) -> Result<()> {
-    let judge = Judge::of(drawn)?;
-    let mut model = Model::of(&drawn.sheet);
-    let mut job = Job::Closed(ClosedJob::open(drawn.sheet, drawn.catalogue()?));
-    ensure!(
-        job.fault().is_none(),
-        "job {number}: a fault of the opening"
-    );
-    for at in 1..=CALLS {
-        let call = Call::draw(&judge, &model, draw);
-        job = make(&judge, &mut model, draw, counts, job, call).context(format_args!(
-            "job {number}, call {at}"
-        ))?;
-    }
-    if model.running.is_some() {
-        make(&judge, &mut model, draw, counts, job, Call::Close).context(format_args!(
-            "job {number}, the last close"
-        ))?;
-    }
-    Ok(())
+    trial.make_all()?;
+    trial.check_list(alloc)?;
+    Ok(trial.counts)
 }
