@@ -1,9 +1,13 @@
 -- The grounds that stand, one line and one ground more at a time. Assumes nothing.
-use Rattle.std.proofs.Common.{◌≡◌, ℕ, zero, suc, ◌+◌, ◌-◌, ◌<◌, ◌≤◌, true, false, List, [], ◌∷◌, length, get_or, drop, Some, None, Option, MatchOption, sym, refl, ap, ◌∙◌, ⊎_elim, arith, length-append}
+use Rattle.std.proofs.Common.{◌≡◌, ℕ, zero, suc, ◌+◌, ◌-◌, ◌<◌, ◌≤◌, true, false, List, [], ◌∷◌, length, get_or, drop, Some, None, Option, MatchOption, sym, refl, ap, ◌∙◌, ⊎_elim, inl, inr, arith, length-append, ◌&&◌}
 use Rattle.std.proofs.lemmas.List.{at_drop_more, at_drop_all, get_or_append_left, get_or-append_right, get_or_push}
-use Rattle.std.proofs.lemmas.Bool.{cond-true, cond-false, cases_lt}
+use Rattle.std.proofs.Math.Nat.{le-min}
+use Rattle.std.proofs.Math.Bool.{and-false}
+use Rattle.std.proofs.lemmas.Bool.{cond-true, cond-false, cases_lt, lt-leb}
+use Rattle.rules.specs.Bounds.{most_places}
 use Rattle.rules.specs.Sheets.{Limits}
-use Rattle.rules.specs.Grounds.{Setting, Part, Ground, stands, first_standing, starting, ledger, of_row}
+use Rattle.rules.specs.Grounds.{Setting, Part, Ground, open_places, joined_above, line_stands, stands, first_standing, starting, ledger, of_row}
+use Rattle.ledger.specs.Tables.{lowest_level}
 use Rattle.search.specs.States.{picked}
 
 module _ (S : Setting) (L : Limits) (s : Part) where
@@ -53,3 +57,16 @@ module _ (S : Setting) (gs : List Ground) where
   ledger_learned i h =
       let at : i - suc S.last_row ≡ i - S.last_row - 1 = omega arith in
       sym (get_or-append_right (starting S S.last_row) gs (suc S.last_row) i [] (starting_length S.last_row) (omega arith) ∙ ap (λ k. get_or gs k []) at)
+
+-- a ground with a line at an open place doesn't stand
+pub lowest_falls : (S : Setting) (L : Limits) (s : Part) (g : Ground) → open_places S s ≤ most_places → lowest_level g < open_places S s → stands S L s g ≡ false
+lowest_falls S L s [] few low = absurd (omega arith)
+lowest_falls S L s (l ∷ g) few low =
+    let worse = (S.joining l.row).worse (joined_above S l.row l.level l.constant s) (L l.row) in
+    elim (cases_lt l.level (open_places S s)) [
+      | inl below ↦ ap (λ b. (b && worse) && stands S L s g) (lt-leb (open_places S s) l.level below)
+      | inr above ↦ elim (cases_lt (lowest_level g) (open_places S s)) [
+          | inl rest ↦ ap (λ b. line_stands S L s l && b) (lowest_falls S L s g few rest) ∙ and-false (line_stands S L s l)
+          | inr high ↦ absurd (omega (arith, le-min above high))
+        ]
+    ]

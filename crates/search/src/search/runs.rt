@@ -1,6 +1,6 @@
 // How a search runs.
-ghost use Rattle.std.specs.Prelude.{◌≡◌, ◌+◌, ◌<◌, ◌≤◌, true, [], ◌∷◌, ◌++◌, pos};
-ghost use Rattle.rules.specs.Bounds.{most_steps};
+ghost use Rattle.std.specs.Prelude.{◌≡◌, ◌+◌, ◌<◌, ◌≤◌, true, [], ◌∷◌, ◌++◌, pos, None, replicate, slice_index_or};
+ghost use Rattle.rules.specs.Bounds.{most_places, most_steps};
 ghost use Rattle.rules.specs.Search.{start as started, room};
 ghost use Rattle.rules.specs.Calls.{run as run_call, run_from, reply};
 ghost use Rattle.ledger.specs.Drafted.{drafted};
@@ -15,7 +15,10 @@ use crate::found::{Ran, Why};
 use crate::grid::Grid;
 use crate::next::{Next, Step};
 use crate::part::Part;
+use crate::pick::Pick;
 use crate::search::Search;
+use crate::search::stack::units_in;
+use crate::sums::LEVELS;
 use ledger::{Draft, Ledger};
 use rules::{MOST_ROWS, MOST_STEPS, Refusal};
 
@@ -30,22 +33,41 @@ fn add_ground(ledger: &mut Ledger, draft: &Draft)
 }
 
 impl Search {
+    // A search before any place is set.
+    fn all_open(grid: Grid, limits: [i64; MOST_ROWS], ledger: Ledger) -> Search
+        ensures part { result.part.versions ≡ replicate most_places 1 }
+        ensures opened { result.part.opened ≡ grid.places }
+        ensures grid { result.grid ≡ grid }
+        ensures limits { result.limits ≡ limits }
+        ensures ledger { result.ledger ≡ ledger }
+        ensures fresh { (result.best ≡ None) × (result.cap ≡ slice_index_or limits 0 (pos 0)) × (result.steps ≡ 0) }
+    {
+        let units = units_in(&grid);
+        let opened = grid.places();
+        let cap = limits[0];
+        Search {
+            grid,
+            limits,
+            ledger,
+            part: Part::first(opened),
+            sums: [units; LEVELS],
+            best: None,
+            cap,
+            steps: 0,
+        }
+    }
+
     // Begins a search.
     pub fn start(grid: Grid, limits: [i64; MOST_ROWS], ledger: Ledger) -> Search
         ensures state { state_of result ≡ started (setting grid) (limits_of limits) (held ledger) }
         ensures grid { result.grid ≡ grid }
         ensures limits { result.limits ≡ limits }
     {
-        let cap = limits[0];
-        Search {
-            grid,
-            limits,
-            ledger,
-            part: Part::first(),
-            best: None,
-            cap,
-            steps: 0,
+        let mut search = Search::all_open(grid, limits, ledger);
+        for index in (0..search.grid.places()).rev() {
+            search.set(Pick { index, version: 1 });
         }
+        search
     }
 
     // Makes a step.
@@ -58,7 +80,7 @@ impl Search {
     {
         match step {
             Step::Set(pick) => {
-                self.part = self.part.with(pick);
+                self.set(pick);
             }
             Step::Learn(index, draft) => {
                 add_ground(&mut self.ledger, &draft);

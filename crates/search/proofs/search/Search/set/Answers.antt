@@ -1,0 +1,16 @@
+use Rattle.std.proofs.Common.{◌≤◌, length-set, ◌∙◌, subst, sym, arith}
+use Rattle.search.specs.Sums.{SummedFrom}
+use Rattle.search.proofs.TotalsAbove.{summed_with}
+use Rattle.search.proofs.search.Search.set.Goals as goal
+
+pub invariant_of-self : goal.invariant_of-self
+invariant_of-self c =
+    let s = c.args.self.now in
+    let p = c.args.pick in
+    let q = c.with-self.result in
+    let put = summed_with s.grid s.part q p.index p.version c.with-self.ensures.versions s.part.opened s.sums s.summed c.requires.next c.requires.there (omega (arith, s.levels, s.grid.few_places, c.requires.there)) c.sums_with.result c.sums_with.ensures in
+    record {
+      within = omega (arith, c.with-self.ensures.opened, c.requires.there);
+      levels = length-set s.sums p.index c.sums_with.result ∙ s.levels;
+      summed = λ level from to. put level (omega (arith, c.with-self.ensures.opened, from)) to;
+    }
