@@ -1,12 +1,9 @@
 -- What is tried at a place of a search. Assumes nothing.
-use Rattle.std.specs.Prelude.{ℕ, ◌+◌, Bool, List, Some, None, Option}
+use Rattle.std.specs.Prelude.{ℕ, ◌+◌, Bool, List, Option}
 use Rattle.rules.specs.declared.lines.Line.{Line}
 use Rattle.rules.specs.Grounds.{Part, Ground, line_stands, stands, first_standing}
 use Rattle.search.specs.States.{chosen_from, force, part_in, above}
-use Rattle.search.specs.Looks.{StoodTo}
 use Rattle.search.specs.declared.search.place.Place.{Place}
-use Rattle.search.specs.declared.search.place.Looked.{Looked}
-use Rattle.search.specs.declared.search.place.Looked.TheVariants.{Free, Stopped}
 use Rattle.search.specs.declared.search.trial.Trial.{Trial}
 
 -- The part-choice that is tried.
@@ -32,13 +29,3 @@ above_place p = above p.search.now p.index
 -- How many versions a place has.
 abbrev pub versions_at : Place → ℕ
 versions_at p = (chosen_from p.search.now).versions (p.index + 1)
-
--- The version that was found free, if one was.
-abbrev pub free_of : Looked → Option ℕ
-free_of (Free v) = Some v
-free_of (Stopped found) = None
-
--- Where none was found free, a ground was found for each version.
-abbrev pub Stood : Place → Looked → Type 0
-Stood p (Free v) = Unit {0}
-Stood p (Stopped found) = StoodTo p.search.now (above_place p) (versions_at p) found

@@ -17,13 +17,12 @@ pub(super) struct Place<'a> {
     ghost passed_by: { PassedAt search.now index passed },
 }
 
-// What a look at each version of a place comes to.
+// What a look at the versions of a place comes to: the lowest with which no ground stands; and for each before it the first ground
+// that stands, by its index, that of version 1 being at 0.
 #[derive(Drop)]
-pub(super) enum Looked {
-    // The lowest version with which no ground stands.
-    Free(u8),
-    // With each version a ground stands: the first by its index, that of version 1 being at 0.
-    Stopped([usize; VERSIONS]),
+pub(super) struct Looked {
+    pub(super) free: Option<u8>,
+    pub(super) stopped: [usize; VERSIONS],
 }
 
 mod learning;

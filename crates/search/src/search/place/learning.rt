@@ -1,10 +1,10 @@
 // How a ground is learned.
-ghost use Rattle.std.specs.Prelude.{◌≡◌, ◌+◌, map};
+ghost use Rattle.std.specs.Prelude.{◌≡◌, ◌+◌, [], map, slice_index_or};
 ghost use Rattle.rules.specs.Grounds.{with_lines};
 ghost use Rattle.rules.specs.Search.{ground_at};
 ghost use Rattle.ledger.specs.Drafted.{drafted};
 ghost use Rattle.ledger.specs.Lines.{AllNear};
-ghost use Rattle.search.specs.States.{chosen_from, job_limits, state_of, moved_with};
+ghost use Rattle.search.specs.States.{chosen_from, job_limits, grounds, state_of, moved_at, moved_with};
 ghost use Rattle.search.specs.Looks.{StoodTo};
 ghost use Rattle.search.specs.Trials.{above_place, versions_at};
 
@@ -26,6 +26,14 @@ impl Place<'_> {
         }
     }
 
+    // Adds the ground at an index, which stands with a version, to a draft.
+    fn put_version(&self, draft: &mut Draft, version: u8, ground: usize)
+        ensures { let s = self.now.search.now in let S = chosen_from s in drafted draft.new ≡ with_lines S (map (moved_at S (self.now.index + 1) version) (slice_index_or (grounds s) ground [])) (drafted draft.old) }
+    {
+        let ground = self.search.ground(ground);
+        self.put_lines(draft, self.pick(version), ground.lines());
+    }
+
     // The ground that is learned at the place, from the first ground that stands with each version.
     pub(crate) fn learn(&self, stopped: [usize; VERSIONS]) -> Draft
         requires { StoodTo self.now.search.now (above_place self.now) (versions_at self.now) stopped }
@@ -33,8 +41,7 @@ impl Place<'_> {
     {
         let mut draft = Draft::empty();
         for version in 1..=self.search.grid.versions(self.index) {
-            let ground = self.search.ground(stopped[usize::from(version) - 1]);
-            self.put_lines(&mut draft, self.pick(version), ground.lines());
+            self.put_version(&mut draft, version, stopped[usize::from(version) - 1]);
         }
         draft
     }

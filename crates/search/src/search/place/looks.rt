@@ -1,9 +1,9 @@
 // Which versions of a place are free.
-ghost use Rattle.std.specs.Prelude.{◌≡◌, ◌+◌, ◌∷◌};
+ghost use Rattle.std.specs.Prelude.{◌≡◌, ◌∷◌, None};
 ghost use Rattle.rules.specs.Search.{lowest_free};
 ghost use Rattle.search.specs.States.{chosen_from, job_limits, state_of};
-ghost use Rattle.search.specs.Looks.{Passed};
-ghost use Rattle.search.specs.Trials.{tried, above_place, versions_at, free_of, Stood};
+ghost use Rattle.search.specs.Looks.{Passed, StoodTo};
+ghost use Rattle.search.specs.Trials.{tried, above_place, versions_at};
 
 use crate::pick::Pick;
 use crate::position::VERSIONS;
@@ -49,8 +49,8 @@ impl<'a> Place<'a> {
     // The lowest version with which no ground stands, or the first ground that stands with each. By a rule of the project loops with
     // labels: at the first ground that stands, on to the next version.
     pub(crate) fn look(&self) -> Looked
-        ensures free { let s = self.now.search.now in free_of result ≡ lowest_free (chosen_from s) (job_limits s) (state_of s) (above_place self.now) (versions_at self.now) }
-        ensures stood { Stood self.now result }
+        ensures free { let s = self.now.search.now in result.free ≡ lowest_free (chosen_from s) (job_limits s) (state_of s) (above_place self.now) (versions_at self.now) }
+        ensures stood { result.free ≡ None → StoodTo self.now.search.now (above_place self.now) (versions_at self.now) result.stopped }
     {
         let mut stopped = [0; VERSIONS];
         let mut free = None;
@@ -65,9 +65,6 @@ impl<'a> Place<'a> {
             free = Some(version);
             break;
         }
-        match free {
-            Some(version) => Looked::Free(version),
-            None => Looked::Stopped(stopped),
-        }
+        Looked { free, stopped }
     }
 }

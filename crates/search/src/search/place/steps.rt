@@ -6,7 +6,7 @@ ghost use Rattle.search.specs.Nexts.{outcome_of, Ready};
 ghost use Rattle.search.specs.Trials.{above_place};
 
 use crate::next::{Next, Step};
-use crate::search::place::{Looked, Place};
+use crate::search::place::Place;
 
 impl Place<'_> {
     // The place takes its lowest free version; or a ground is learned, where there is space.
@@ -14,10 +14,11 @@ impl Place<'_> {
         ensures outcome { let s = self.now.search.now in outcome_of s result ≡ go_on (chosen_from s) (job_limits s) (state_of s) (above_place self.now) }
         ensures ready { Ready self.now.search.now result }
     {
-        match self.look() {
-            Looked::Free(version) => Next::Makes(Step::Set(self.pick(version))),
-            Looked::Stopped(stopped) => {
-                let draft = self.learn(stopped);
+        let looked = self.look();
+        match looked.free {
+            Some(version) => Next::Makes(Step::Set(self.pick(version))),
+            None => {
+                let draft = self.learn(looked.stopped);
                 if self.search.ledger.has_room(draft.lines()) {
                     Next::Makes(Step::Learn(self.index, draft))
                 } else {
