@@ -1,10 +1,9 @@
 -- What the sums of a search tell. Assumes nothing.
-use Rattle.std.proofs.Common.{◌≡◌, ℕ, ◌+◌, ◌<◌, ◌≤◌, get_or, drop, ◌∷◌, ℤ, pos, nat_abs, sym, ap, ◌∙◌, subst, arith}
+use Rattle.std.proofs.Common.{◌≡◌, ℕ, ◌+◌, ◌<◌, ◌≤◌, get_or, drop, ◌∷◌, pos, nat_abs, sym, ap, ◌∙◌, subst, arith}
 use Rattle.std.proofs.lemmas.List.{get_or_default}
 use Rattle.rules.specs.Bounds.{most_places, most_rows}
-use Rattle.rules.specs.Grounds.{open_places, with_amount, part_total}
+use Rattle.rules.specs.Grounds.{with_amount, part_total}
 use Rattle.ledger.specs.Lines.{reach}
-use Rattle.search.specs.Tables.{most_levels}
 use Rattle.search.specs.Parts.{versions_of}
 use Rattle.search.specs.Sums.{no_sums, Totals}
 use Rattle.search.specs.States.{chosen_from, above}

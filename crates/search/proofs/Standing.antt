@@ -80,7 +80,7 @@ lowest_falls S L s (l ∷ g) few low =
     elim (cases_lt l.level (open_places S s)) [
       | inl below ↦ ap (λ b. (b && worse) && stands S L s g) (lt-leb (open_places S s) l.level below)
       | inr above ↦ elim (cases_lt (lowest_level g) (open_places S s)) [
-          | inl rest ↦ ap (λ b. line_stands S L s l && b) (lowest_falls S L s g few rest) ∙ and-false (line_stands S L s l)
-          | inr high ↦ absurd (omega (arith, le-min above high))
-        ]
+        | inl rest ↦ ap (λ b. line_stands S L s l && b) (lowest_falls S L s g few rest) ∙ and-false (line_stands S L s l)
+        | inr high ↦ absurd (omega (arith, le-min above high))
+      ]
     ]

@@ -1,10 +1,10 @@
 -- What the amounts above a level come to, by which a line is joined once. Assumes nothing.
-use Rattle.std.proofs.Common.{◌≡◌, ℕ, suc, ◌+◌, ◌*◌, ◌<◌, ◌≤◌, ltb, leb, List, [], ◌∷◌, length, get_or, take, drop, set, ℤ, pos, nat_abs, sym, refl, ap, ◌∙◌, subst, inl, inr, arith, length-drop, ◌-◌, IfSome, Some, w64, to_z, of_z}
+use Rattle.std.proofs.Common.{◌≡◌, ℕ, suc, ◌+◌, ◌*◌, ◌<◌, ◌≤◌, ltb, List, [], ◌∷◌, length, get_or, take, drop, set, ℤ, pos, nat_abs, sym, refl, ap, ◌∙◌, subst, inl, inr, arith, length-drop, ◌-◌, IfSome, Some, w64, to_z, of_z}
 use borrow.Author.Differences.{ints}
 use Rattle.std.proofs.Math.Seq.{take-set-lt}
 use Rattle.std.proofs.lemmas.List.{drop_all, drop_more, drop-set-lt, get_or-set_same, get_or-set_other, length-take-le}
 use Rattle.std.proofs.lemmas.Bool.{cases_lt, cond_both}
-use Rattle.rules.specs.Bounds.{most_places, most_rows, amount_reach, greatest_amount}
+use Rattle.rules.specs.Bounds.{most_places, amount_reach, greatest_amount}
 use Rattle.rules.specs.Joinings.{Laws}
 use Rattle.rules.specs.Grounds.{Setting, Part, open_places, with_amount, joined_above, part_total}
 use Rattle.rules.proofs.Joined.{joined_on}

@@ -1,5 +1,5 @@
 -- What a look at the versions of a place finds. Assumes nothing.
-use Rattle.std.specs.Prelude.{◌≡◌, ℕ, ◌+◌, ◌-◌, ◌≤◌, List, [], ◌∷◌, drop, Some, None, Option, slice_index, slice_index_or}
+use Rattle.std.specs.Prelude.{◌≡◌, ℕ, ◌-◌, ◌≤◌, List, [], ◌∷◌, drop, slice_index, slice_index_or}
 use Rattle.rules.specs.Grounds.{Part, first_standing}
 use Rattle.search.specs.States.{chosen_from, force, grounds, above, pick_of}
 use Rattle.search.specs.declared.search.Search.{Search}

@@ -1,16 +1,15 @@
 -- A search of the rules in its tables. Assumes nothing.
-use Rattle.std.specs.Prelude.{◌≡◌, ℕ, suc, ◌+◌, Bool, if◌then◌else◌, List, [], ◌∷◌, drop, ℤ, pos, Option, ◌==◌, slice_index_or}
+use Rattle.std.specs.Prelude.{◌≡◌, ℕ, suc, ◌+◌, if◌then◌else◌, List, [], ◌∷◌, ℤ, pos, Option, ◌==◌, slice_index_or}
 use Rattle.std.specs.Option.{option_map}
 use Rattle.rules.specs.declared.lines.Line.{Line}
 use Rattle.rules.specs.Sheets.{Limits}
 use Rattle.rules.specs.Choices.{capped}
-use Rattle.rules.specs.Grounds.{Setting, Part, Ground, with_amount, joined_above, ledger, first_standing, ground_in}
+use Rattle.rules.specs.Grounds.{Setting, Part, Ground, with_amount, ledger, first_standing, ground_in}
 use Rattle.rules.specs.Search.{State}
 use Rattle.ledger.specs.Model.{held}
 use Rattle.search.specs.Settings.{setting}
 use Rattle.search.specs.Parts as parts
 use Rattle.search.specs.declared.part as declared
-use Rattle.search.specs.declared.grid.Grid.{Grid}
 use Rattle.search.specs.declared.pick.Pick.{Pick}
 use Rattle.search.specs.declared.search.Search.{Search}
 

@@ -1,5 +1,5 @@
 // How a search runs.
-ghost use Rattle.std.specs.Prelude.{◌≡◌, ◌+◌, ◌<◌, ◌≤◌, true, [], ◌∷◌, ◌++◌, pos, None, replicate, slice_index_or};
+ghost use Rattle.std.specs.Prelude.{◌≡◌, ◌+◌, ◌<◌, ◌≤◌, true, [], ◌∷◌, ◌++◌, pos, None, replicate};
 ghost use Rattle.rules.specs.Bounds.{most_places, most_steps};
 ghost use Rattle.rules.specs.Search.{start as started, room};
 ghost use Rattle.rules.specs.Calls.{run as run_call, run_from, reply};
@@ -40,7 +40,7 @@ impl Search {
         ensures grid { result.grid ≡ grid }
         ensures limits { result.limits ≡ limits }
         ensures ledger { result.ledger ≡ ledger }
-        ensures fresh { (result.best ≡ None) × (result.cap ≡ slice_index_or limits 0 (pos 0)) × (result.steps ≡ 0) }
+        ensures fresh { (result.best ≡ None) × (result.cap ≡ job_limits result 0) × (result.steps ≡ 0) }
     {
         let units = units_in(&grid);
         let opened = grid.places();

@@ -4,7 +4,7 @@ ghost use Rattle.rules.specs.Bounds.{greatest_row};
 ghost use Rattle.rules.specs.Grounds.{part_total};
 ghost use Rattle.search.specs.Settings.{setting};
 ghost use Rattle.search.specs.Sums.{Totals};
-ghost use Rattle.search.specs.States.{chosen_from, above, SameBut};
+ghost use Rattle.search.specs.States.{chosen_from, above, part_in, SameBut};
 
 use crate::grid::Grid;
 use crate::pick::Pick;
@@ -51,6 +51,7 @@ impl Search {
         requires next { self.old.part.opened ≤ pick.index + 1 }
         ensures opened { self.new.part.opened ≡ pick.index }
         ensures versions { self.new.part.versions ≡ slice_set self.old.part.versions pick.index pick.version }
+        ensures part { part_in self.new self.new.part ≡ pick.version ∷ above self.old pick.index }
         ensures kept { SameBut self.new self.old }
     {
         self.sums[pick.index] = self.sums_with(pick);

@@ -34,7 +34,9 @@ impl Trial<'_> {
     {
         let level = usize::from(near.line.level);
         self.part.opened() <= level
-            && self.search.breaks_limit(near, self.above(level, near.line.row))
+            && self
+                .search
+                .breaks_limit(near, self.above(level, near.line.row))
     }
 
     // A ground stands when each of its lines does; by a rule of the project a plain loop, left at the first that doesn't.

@@ -1,4 +1,4 @@
-use Rattle.std.proofs.Common.{◌≤◌, arith}
+use Rattle.std.proofs.Common.{arith}
 use borrow.Author.Differences.{ints}
 use Rattle.search.proofs.Stacks.{read_near}
 use Rattle.search.proofs.search.Search.price.Goals as goal

@@ -1,5 +1,5 @@
-use Rattle.std.proofs.Common.{◌≤◌, length-set, ◌∙◌, subst, sym, arith}
-use Rattle.search.specs.Sums.{SummedFrom}
+use Rattle.std.proofs.Common.{take, drop, length-set, ap₂, ◌∙◌, arith}
+use Rattle.search.proofs.Parts.{put_on}
 use Rattle.search.proofs.TotalsAbove.{summed_with}
 use Rattle.search.proofs.search.Search.set.Goals as goal
 
@@ -14,3 +14,10 @@ invariant_of-self c =
       levels = length-set s.sums p.index c.sums_with.result ∙ s.levels;
       summed = λ level from to. put level (omega (arith, c.with-self.ensures.opened, from)) to;
     }
+
+pub returns-clause-part : goal.returns-clause-part
+returns-clause-part c =
+    let s = c.args.self.now in
+    let p = c.args.pick in
+    ap₂ (λ i vs. drop i (take s.grid.places vs)) c.with-self.ensures.opened c.with-self.ensures.versions
+    ∙ put_on s.part.versions s.grid.places p.index p.version c.requires.there (omega (arith, s.part.long, s.grid.few_places))

@@ -1,8 +1,6 @@
-use Rattle.std.proofs.Common.{◌≡◌, ◌∷◌, ◌+◌, ◌≤◌, take, drop, sym, ap, ap₂, ◌∙◌, subst, arith}
-use Rattle.search.specs.Parts.{versions_of}
+use Rattle.std.proofs.Common.{◌≡◌, ◌∷◌, take, drop, sym, ap₂, ◌∙◌, subst, arith}
 use Rattle.search.specs.Sums.{Totals}
 use Rattle.search.specs.States.{chosen_from, above, part_in}
-use Rattle.search.specs.Trials.{above_place}
 use Rattle.search.proofs.Parts.{put_on}
 use Rattle.search.proofs.TotalsAbove.{still_summed}
 use Rattle.search.proofs.search.place.Place.trial.Goals as goal

@@ -1,5 +1,4 @@
-use Rattle.std.proofs.Common.{◌≡◌, ◌<◌, get_or, drop, pos, sym, ap, ◌∙◌, arith}
-use Rattle.rules.specs.Bounds.{most_rows}
+use Rattle.std.proofs.Common.{◌≡◌, ◌<◌, get_or, drop, pos, ap, ◌∙◌, arith}
 use Rattle.rules.specs.Grounds.{part_total}
 use Rattle.search.specs.Parts.{versions_of}
 use Rattle.search.specs.Sums.{no_sums}
