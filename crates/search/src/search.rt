@@ -1,5 +1,6 @@
 // A search in progress.
 ghost use Rattle.std.specs.Prelude.{◌≡◌, ◌≤◌, length};
+ghost use Rattle.rules.specs.Bounds.{most_rows};
 ghost use Rattle.search.specs.Tables.{most_levels};
 ghost use Rattle.search.specs.Sums.{SummedFrom};
 
@@ -23,6 +24,7 @@ pub struct Search {
     cap: i64,
     steps: u32,
     ghost within: { part.opened ≤ grid.places },
+    ghost all_rows: { length limits ≡ most_rows },
     ghost levels: { length sums ≡ most_levels },
     ghost summed: { SummedFrom part.opened grid part sums },
 }
@@ -32,6 +34,7 @@ mod findings;
 mod grounds;
 mod nexts;
 mod place;
+mod rests;
 mod runs;
 mod stack;
 mod trial;

@@ -37,7 +37,7 @@ pub(super) fn unit_in(grid: &Grid, row: u8) -> i64
 
 impl Search {
     // The limit of a row in force; the search has its own cap on the price.
-    fn limit(&self, row: u8) -> i64
+    fn limit_in_force(&self, row: u8) -> i64
         requires { row ≤ greatest_row }
         ensures { result ≡ force self.now row }
     {
@@ -77,7 +77,7 @@ impl Search {
         ensures { let l = near.line in let J = (chosen_from self.now).joining l.row in result ≡ J.worse (joined_onto J l.constant above) (force self.now l.row) }
     {
         let line = near.line;
-        let limit = self.limit(line.row);
+        let limit = self.limit_in_force(line.row);
         at_joining!(&self.grid, line.row, breaks(line.constant, above, limit))
     }
 

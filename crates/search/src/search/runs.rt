@@ -1,26 +1,20 @@
 // How a search runs.
-ghost use Rattle.std.specs.Prelude.{◌≡◌, ◌+◌, ◌<◌, ◌≤◌, true, [], ◌∷◌, ◌++◌, pos, None, replicate};
-ghost use Rattle.rules.specs.Bounds.{most_places, most_steps};
-ghost use Rattle.rules.specs.Search.{start as started, room};
+ghost use Rattle.std.specs.Prelude.{◌≡◌, ◌+◌, ◌<◌, ◌≤◌, true, [], ◌∷◌, ◌++◌, pos};
+ghost use Rattle.rules.specs.Bounds.{most_steps};
+ghost use Rattle.rules.specs.Search.{room};
 ghost use Rattle.rules.specs.Calls.{run as run_call, run_from, reply};
 ghost use Rattle.ledger.specs.Drafted.{drafted};
 ghost use Rattle.ledger.specs.Model.{held};
-ghost use Rattle.search.specs.Settings.{setting};
-ghost use Rattle.search.specs.States.{chosen_from, limits_of, job_limits, state_of, SameJob};
+ghost use Rattle.search.specs.States.{chosen_from, job_limits, state_of, SameJob};
 ghost use Rattle.search.specs.Findings.{learned_shaped};
 ghost use Rattle.search.specs.Nexts.{after, ReadyStep};
 ghost use Rattle.search.specs.Runs.{ran_of, running_of, run_answer};
 
 use crate::found::{Ran, Why};
-use crate::grid::Grid;
 use crate::next::{Next, Step};
-use crate::part::Part;
-use crate::pick::Pick;
 use crate::search::Search;
-use crate::search::stack::units_in;
-use crate::sums::LEVELS;
 use ledger::{Draft, Ledger};
-use rules::{MOST_ROWS, MOST_STEPS, Refusal};
+use rules::{MOST_STEPS, Refusal};
 
 // Adds a ground to a ledger that has space for it.
 fn add_ground(ledger: &mut Ledger, draft: &Draft)
@@ -33,43 +27,6 @@ fn add_ground(ledger: &mut Ledger, draft: &Draft)
 }
 
 impl Search {
-    // A search before any place is set.
-    fn all_open(grid: Grid, limits: [i64; MOST_ROWS], ledger: Ledger) -> Search
-        ensures part { result.part.versions ≡ replicate most_places 1 }
-        ensures opened { result.part.opened ≡ grid.places }
-        ensures grid { result.grid ≡ grid }
-        ensures limits { result.limits ≡ limits }
-        ensures ledger { result.ledger ≡ ledger }
-        ensures fresh { (result.best ≡ None) × (result.cap ≡ job_limits result 0) × (result.steps ≡ 0) }
-    {
-        let units = units_in(&grid);
-        let opened = grid.places();
-        let cap = limits[0];
-        Search {
-            grid,
-            limits,
-            ledger,
-            part: Part::first(opened),
-            sums: [units; LEVELS],
-            best: None,
-            cap,
-            steps: 0,
-        }
-    }
-
-    // Begins a search.
-    pub fn start(grid: Grid, limits: [i64; MOST_ROWS], ledger: Ledger) -> Search
-        ensures state { state_of result ≡ started (setting grid) (limits_of limits) (held ledger) }
-        ensures grid { result.grid ≡ grid }
-        ensures limits { result.limits ≡ limits }
-    {
-        let mut search = Search::all_open(grid, limits, ledger);
-        for index in (0..search.grid.places()).rev() {
-            search.set(Pick { index, version: 1 });
-        }
-        search
-    }
-
     // Makes a step.
     fn make(&mut self, step: Step)
         requires ready { ReadyStep self.old step }

@@ -15,7 +15,7 @@ invariant_of-job g c =
     let before = c.in-Ok.running in
     let after = c.close.result in
     let kept =
-    goes_on m j.sheet close (searched_of before) (closed_of after) (chosen_from before.search) (setting after.grid)
+    goes_on m j.sheet close (searched_of before) (closed_of after) (chosen_from before.search) (chosen_from after.search)
     c.close.ensures.grid c.close.ensures.job (in_running m j.sheet _ before c.in-Ok.is (j.seen, j.came))
     in
     record { seen = kept.0; came = kept.1 }

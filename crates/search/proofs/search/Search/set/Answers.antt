@@ -11,6 +11,7 @@ invariant_of-self c =
     let put = summed_with s.grid s.part q p.index p.version c.with-self.ensures.versions s.part.opened s.sums s.summed c.requires.next c.requires.there (omega (arith, s.levels, s.grid.few_places, c.requires.there)) c.sums_with.result c.sums_with.ensures in
     record {
       within = omega (arith, c.with-self.ensures.opened, c.requires.there);
+      all_rows = s.all_rows;
       levels = length-set s.sums p.index c.sums_with.result ∙ s.levels;
       summed = λ level from to. put level (omega (arith, c.with-self.ensures.opened, from)) to;
     }

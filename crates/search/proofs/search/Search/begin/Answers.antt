@@ -6,13 +6,13 @@ use Rattle.search.specs.Settings.{setting}
 use Rattle.search.specs.States.{limits_of}
 use Rattle.search.proofs.Parts.{still_ones, ones_set}
 use Rattle.search.proofs.Running.{begun}
-use Rattle.search.proofs.search.Search.start.Goals as goal
+use Rattle.search.proofs.search.Search.begin.Goals as goal
 
 pub loop-index-preserved : goal.loop-index-preserved
 loop-index-preserved c =
     let inv = c.loop-index.invariant in
     let i = c.loop-index.index - 1 in
-    let low : i < most_places = omega (arith, inv.low, c.loop-index.search.grid.few_places) in
+    let low : i < most_places = omega (arith, inv.low, c.loop-index.self.grid.few_places) in
     let kept = c.set.ensures.kept in
     record {
       versions = c.set.ensures.versions ∙ ap (λ vs. set vs i 1) inv.versions ∙ still_ones most_places i low;
@@ -23,12 +23,12 @@ loop-index-preserved c =
 
 pub returns-clause-state : goal.returns-clause-state
 returns-clause-state c =
-    let s = c.loop-index.search in
+    let s = c.loop-index.self in
     let inv = c.loop-index.invariant in
     let none : s.part.opened ≡ 0 = omega (arith, inv.opened) in
     let ones = ones_set s s.part inv.versions none in
-    let a = c.all_open-search.ensures in
-    let t = c.all_open-search.result in
+    let a = c.open_all.ensures in
+    let t = c.open_all.new.self in
     begun s t inv.kept a.fresh ones
-    ∙ ap₂ (λ g l. start (setting g) (limits_of l) (held t.ledger)) a.grid a.limits
-    ∙ ap (λ l. start (setting c.args.grid) (limits_of c.args.limits) (held l)) a.ledger
+    ∙ ap₂ (λ g l. start (setting g) (limits_of l) (held t.ledger)) a.kept.0 a.kept.1
+    ∙ ap (λ l. start (setting c.args.self.now.grid) (limits_of c.args.self.now.limits) (held l)) a.ledger
