@@ -2,7 +2,6 @@ use Rattle.std.proofs.Common.{refl, ap, sym}
 use Rattle.rules.specs.Calls.{close}
 use Rattle.rules.specs.KeptJobs.{told_on}
 use Rattle.rules.specs.Settings as rules
-use Rattle.search.specs.Settings.{setting}
 use Rattle.search.specs.States.{chosen_from}
 use Rattle.chooser.specs.Models.{closed_of, kept_running, searched_of}
 use Rattle.chooser.proofs.Comings.{goes_on, in_running, in_faulty_running}
