@@ -8,17 +8,16 @@ use Rattle.rules.specs.Grounds.{Setting}
 use Rattle.rules.specs.Calls.{Answer, taken, ran, refused, Job, closed}
 use Rattle.rules.specs.KeptJobs.{KeptJob, faulty, faultless, fault_of}
 use Rattle.ledger.specs.Model.{held}
-use Rattle.search.specs.Settings.{setting}
-use Rattle.search.specs.States.{limits_of, chosen_from}
+use Rattle.search.specs.States.{job_limits, chosen_from}
 use Rattle.search.specs.Runs.{running_of, why_of}
-use Rattle.search.specs.Findings.{verdict_with}
+use Rattle.search.specs.Findings.{verdict_of}
 use Rattle.search.specs.declared.found.Ran.{Ran}
 use Rattle.chooser.specs.declared.closed.Closed.{Closed}
 use Rattle.chooser.specs.declared.running.Running.{Running}
 
 -- The job of a closed one.
 abbrev pub closed_of : Closed → Job
-closed_of c = closed (limits_of c.limits) (held c.ledger) (option_map (verdict_with (setting c.grid).places) c.verdict)
+closed_of c = closed (job_limits c.search) (held c.search.ledger) (option_map (verdict_of c.search) c.verdict)
 
 -- The job of a running one.
 abbrev pub searched_of : Running → Job
@@ -36,7 +35,7 @@ kept_running (Err f) = faulty f
 
 -- The setting that a closed job has in its tables; with a fault it has none, and the one given stands for it.
 abbrev pub setting_closed : Setting → Result Closed Fault → Setting
-setting_closed S (Ok c) = setting c.grid
+setting_closed S (Ok c) = chosen_from c.search
 setting_closed S (Err f) = S
 
 -- The same of a running job.

@@ -1,22 +1,16 @@
 // A closed job that was opened without fault.
 ghost use Rattle.std.specs.Prelude.{◌≡◌, true};
-ghost use Rattle.ledger.specs.Model.{held};
-ghost use Rattle.search.specs.Settings.{setting};
-ghost use Rattle.search.specs.Findings.{all_shaped};
+ghost use Rattle.search.specs.Findings.{learned_shaped};
 
-use ledger::Ledger;
-use rules::MOST_ROWS;
-use search::{Grid, Verdict};
+use search::{Search, Verdict};
 
-// What is chosen from, the limits in force, the learned grounds, and the verdict on the last search, or none while the job is
-// unsearched.
+// A search at rest, with what is chosen from, the limits in force and the learned grounds; and the verdict on the last search, or
+// none while the job is unsearched.
 #[derive(Drop)]
 pub(crate) struct Closed {
-    pub(crate) grid: Grid,
-    pub(crate) limits: [i64; MOST_ROWS],
-    pub(crate) ledger: Ledger,
+    pub(crate) search: Search,
     pub(crate) verdict: Option<Verdict>,
-    ghost shaped: { all_shaped (setting grid).places (held ledger) ≡ true },
+    ghost shaped: { learned_shaped search ≡ true },
 }
 
 mod calls;

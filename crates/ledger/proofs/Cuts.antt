@@ -78,43 +78,45 @@ module _ (ls : List Line) (x : Line) where
       let upward = adjoin_upward gs g.end to first.2 in
       ap (λ t. t ∷ grounds_of (ls ++ x ∷ []) gs) (cut_same g (omega (arith, first.0, first.1)) (omega arith)) ∙ ap (λ t. cut ls g ∷ t) (grounds_same gs g.end to first.2 within)
 
-  cut_more : (start : ℕ) → start ≤ length ls → cut (ls ++ x ∷ []) (record { start = start; end = length ls + 1 }) ≡ cut ls (record { start = start; end = length ls }) ++ x ∷ []
-  cut_more start within =
+  cut_more : (start m n : ℕ) → start ≤ length ls → cut (ls ++ x ∷ []) (record { start = start; end = length ls + 1; lowest = m }) ≡ cut ls (record { start = start; end = length ls; lowest = n }) ++ x ∷ []
+  cut_more start m n within =
       let long = length-drop start ls in
       ap (take (length ls + 1 - start)) (drop-append-le start ls (x ∷ []) within)
       ∙ take_all (length ls + 1 - start) (drop start ls ++ x ∷ []) (simp length-append (omega arith))
       ∙ ap (λ t. t ++ x ∷ []) (sym (take_all (length ls - start) (drop start ls) (omega arith)))
 
 -- the last record of a ledger written over
-set_last : {X : Type 0} (xs : List X) (n : ℕ) (y : X) → suc n ≡ length xs → set xs n y ≡ take n xs ++ y ∷ []
+pub set_last : {X : Type 0} (xs : List X) (n : ℕ) (y : X) → suc n ≡ length xs → set xs n y ≡ take n xs ++ y ∷ []
 set_last xs n y last = set_split xs n y (omega arith) ∙ ap (λ t. take n xs ++ y ∷ t) (drop_all (suc n) xs (omega arith))
 
 module _ (s : Ledger) (n : ℕ) (d : GroundRecord) (last : suc n ≡ length s.grounds.items) where
-  records_are : s.grounds.items ≡ take n s.grounds.items ++ get_or s.grounds.items n d ∷ []
+  pub records_are : s.grounds.items ≡ take n s.grounds.items ++ get_or s.grounds.items n d ∷ []
   records_are = sym (set-get_or s.grounds.items n d) ∙ set_last s.grounds.items n (get_or s.grounds.items n d) last
 
   last_adjoins : (adjoin (take n s.grounds.items) 0 (get_or s.grounds.items n d).start ≡ true) × ((get_or s.grounds.items n d).start ≤ (get_or s.grounds.items n d).end) × ((get_or s.grounds.items n d).end ≡ length s.lines.items)
   last_adjoins = adjoin_last (take n s.grounds.items) (get_or s.grounds.items n d) 0 (length s.lines.items) (ap (λ gs. adjoin gs 0 (length s.lines.items)) (sym records_are) ∙ s.adjoin)
 
   -- it reaches further
-  pub still_adjoin : (e : ℕ) → length s.lines.items ≤ e → adjoin (set s.grounds.items n (record { start = (get_or s.grounds.items n d).start; end = e })) 0 e ≡ true
-  still_adjoin e long =
+  pub still_adjoin : (e m : ℕ) → length s.lines.items ≤ e → adjoin (set s.grounds.items n (record { start = (get_or s.grounds.items n d).start; end = e; lowest = m })) 0 e ≡ true
+  still_adjoin e m long =
       let was = last_adjoins in
-      ap (λ gs. adjoin gs 0 e) (set_last s.grounds.items n (record { start = (get_or s.grounds.items n d).start; end = e }) last)
-      ∙ adjoin_push (take n s.grounds.items) (record { start = (get_or s.grounds.items n d).start; end = e }) 0 (get_or s.grounds.items n d).start was.0 refl (omega (arith, was.1, was.2))
+      let g : GroundRecord = record { start = (get_or s.grounds.items n d).start; end = e; lowest = m } in
+      ap (λ gs. adjoin gs 0 e) (set_last s.grounds.items n g last)
+      ∙ adjoin_push (take n s.grounds.items) g 0 g.start was.0 refl (omega (arith, was.1, was.2))
 
   -- to a line behind all others, which is one more in the newest ground
-  pub put_behind : (x : Line) (older : List Ground) (newest : Ground) → held s ≡ older ++ newest ∷ [] → grounds_of (s.lines.items ++ x ∷ []) (set s.grounds.items n (record { start = (get_or s.grounds.items n d).start; end = length s.lines.items + 1 })) ≡ older ++ (newest ++ x ∷ []) ∷ []
-  put_behind x older newest was =
+  pub put_behind : (x : Line) (m : ℕ) (older : List Ground) (newest : Ground) → held s ≡ older ++ newest ∷ [] → grounds_of (s.lines.items ++ x ∷ []) (set s.grounds.items n (record { start = (get_or s.grounds.items n d).start; end = length s.lines.items + 1; lowest = m })) ≡ older ++ (newest ++ x ∷ []) ∷ []
+  put_behind x m older newest was =
       let ls = s.lines.items in
       let gs = take n s.grounds.items in
       let g = get_or s.grounds.items n d in
+      let more : GroundRecord = record { start = g.start; end = length ls + 1; lowest = m } in
       let at = last_adjoins in
       let parts = same_from_push (grounds_of ls gs) older (cut ls g) newest (sym (map_push (cut ls) gs g) ∙ ap (grounds_of ls) (sym records_are) ∙ was) in
-      ap (grounds_of (ls ++ x ∷ [])) (set_last s.grounds.items n (record { start = g.start; end = length ls + 1 }) last)
-      ∙ map_push (cut (ls ++ x ∷ [])) gs (record { start = g.start; end = length ls + 1 })
-      ∙ ap (λ (t : List Ground). t ++ cut (ls ++ x ∷ []) (record { start = g.start; end = length ls + 1 }) ∷ []) (grounds_same ls x gs 0 g.start at.0 (omega (arith, at.1, at.2)) ∙ parts.0)
-      ∙ ap (λ (t : Ground). older ++ t ∷ []) (cut_more ls x g.start (omega (arith, at.1, at.2)) ∙ ap (λ (e : ℕ). cut ls (record { start = g.start; end = e }) ++ x ∷ []) (sym at.2) ∙ ap (λ (t : Ground). t ++ x ∷ []) parts.1)
+      ap (grounds_of (ls ++ x ∷ [])) (set_last s.grounds.items n more last)
+      ∙ map_push (cut (ls ++ x ∷ [])) gs more
+      ∙ ap (λ (t : List Ground). t ++ cut (ls ++ x ∷ []) more ∷ []) (grounds_same ls x gs 0 g.start at.0 (omega (arith, at.1, at.2)) ∙ parts.0)
+      ∙ ap (λ (t : Ground). older ++ t ∷ []) (cut_more ls x g.start m g.lowest (omega (arith, at.1, at.2)) ∙ ap (λ (e : ℕ). cut ls (record { start = g.start; end = e; lowest = g.lowest }) ++ x ∷ []) (sym at.2) ∙ ap (λ (t : Ground). t ++ x ∷ []) parts.1)
 
 -- the lines in use are those of the grounds
 pub counted : (s : Ledger) → line_count (held s) ≡ length s.lines.items

@@ -5,3 +5,4 @@ pub mod FewLines
 pub mod Drafting
 pub mod Cuts
 pub mod Told
+pub mod LowestLevels

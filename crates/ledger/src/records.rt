@@ -1,7 +1,8 @@
-// Where the lines of a ground lie in the table of lines: from one index up to another.
+// Where the lines of a ground lie in the table of lines, from one index up to another, and the lowest level among them.
 // A list of lists would need a heap, which no library here has.
 #[derive(Clone, Copy, Default)]
 pub struct GroundRecord {
     pub start: usize,
     pub end: usize,
+    pub lowest: u8,
 }

@@ -1,7 +1,7 @@
 // The tables of a ledger.
 ghost use Rattle.std.specs.Prelude.{◌≡◌, true, length};
 ghost use Rattle.ledger.specs.Lines.{AllNear};
-ghost use Rattle.ledger.specs.Tables.{adjoin};
+ghost use Rattle.ledger.specs.Tables.{adjoin, Lowest};
 
 use crate::records::GroundRecord;
 use arrayvec::ArrayVec;
@@ -14,6 +14,7 @@ pub struct Ledger {
     lines: ArrayVec<Line, MOST_LINES>,
     ghost adjoin: { adjoin grounds.items 0 (length lines.items) ≡ true },
     ghost near: { AllNear lines.items },
+    ghost lowest: { Lowest lines.items grounds.items },
 }
 
 mod reads;

@@ -2,8 +2,10 @@ pub mod Grids
 pub mod Parts
 pub mod Aboves
 pub mod Standing
-pub mod FreeVersions
+pub mod Looks
 pub mod Learns
 pub mod NextSteps
 pub mod Running
 pub mod GroundShapes
+pub mod TotalsAbove
+pub mod Stacks

@@ -1,7 +1,8 @@
 -- The versions of a part-choice in their table. Assumes nothing.
-use Rattle.std.proofs.Common.{◌≡◌, ℕ, ◌+◌, ◌-◌, ◌<◌, ◌≤◌, List, [], ◌∷◌, length, get_or, take, drop, set, ap, ◌∙◌, arith}
+use Rattle.std.proofs.Common.{◌≡◌, ℕ, ◌+◌, ◌-◌, ◌<◌, ◌≤◌, List, [], ◌∷◌, length, get_or, take, drop, set, replicate, sym, ap, ap₂, ◌∙◌, arith}
 use Rattle.std.proofs.Math.Seq.{take-set-lt}
-use Rattle.std.proofs.lemmas.List.{drop_all, drop_more, drop-set, length-take-le}
+use Rattle.std.proofs.lemmas.List.{drop_all, drop_more, drop-set, length-take-le, set-get_or, get_or-replicate, take-replicate}
+use Rattle.rules.specs.Bounds.{most_places}
 use Rattle.search.specs.Parts.{versions_of}
 use Rattle.search.specs.declared.part.Part.{Part}
 use Rattle.search.specs.declared.search.Search.{Search}
@@ -33,3 +34,10 @@ part_head s low = drop_more (versions_of s.grid.places s.part) s.part.opened 0 (
 
 pub part_above : (s : Search) → 0 < s.part.opened → above s (s.part.opened - 1) ≡ part_in s s.part
 part_above s some = let back : s.part.opened - 1 + 1 ≡ s.part.opened = omega arith in ap (λ n. drop n (versions_of s.grid.places s.part)) back
+
+-- version 1 everywhere stays so when a place takes version 1, and gives each of so many places version 1
+pub still_ones : (n i : ℕ) → i < n → set {A = ℕ} (replicate n 1) i 1 ≡ replicate n 1
+still_ones n i low = sym (ap (set (replicate n 1) i) (get_or-replicate {A = ℕ} n i 1 0 low)) ∙ set-get_or (replicate n 1) i 0
+
+pub ones_set : (s : Search) (p : Part) → p.versions ≡ replicate most_places 1 → p.opened ≡ 0 → part_in s p ≡ replicate s.grid.places 1
+ones_set s p ones none = ap₂ (λ i vs. drop i (take s.grid.places vs)) none ones ∙ take-replicate s.grid.places most_places 1 s.grid.few_places

@@ -1,13 +1,15 @@
 -- One step more of a run. Assumes nothing.
-use Rattle.std.proofs.Common.{◌≡◌, ℕ, suc, ◌+◌, ◌-◌, ◌<◌, ◌≤◌, leb, pos, sym, ap, ◌∙◌, arith}
+use Rattle.std.proofs.Common.{◌≡◌, ℕ, suc, ◌+◌, ◌-◌, ◌<◌, ◌≤◌, leb, List, replicate, ℤ, pos, None, Option, sym, ap, ◌∙◌, arith}
 use Rattle.std.proofs.lemmas.Bool.{le-leb, lt-leb, cond-true, cond-false}
 use Rattle.rules.specs.declared.refusals.Refusal.TheVariants.{BudgetBeyond}
 use Rattle.rules.specs.Bounds.{most_steps}
 use Rattle.rules.specs.Sheets.{Limits}
-use Rattle.rules.specs.Grounds.{Setting}
-use Rattle.rules.specs.Search.{State, Outcome, ended, full, stepped, next}
+use Rattle.rules.specs.Grounds.{Setting, Part, Ground}
+use Rattle.rules.specs.Search.{State, Outcome, ended, full, stepped, start, next}
 use Rattle.rules.specs.Calls.{has_ended, is_full, Ran, one_more, run_from, run, running, refused, replied, run_reply, reply}
-use Rattle.search.specs.States.{chosen_from, job_limits, state_of, SameJob}
+use Rattle.ledger.specs.Model.{held}
+use Rattle.search.specs.declared.grid.Grid.{Grid}
+use Rattle.search.specs.States.{chosen_from, job_limits, best_in, part_in, state_of, SameJob, SameBut}
 use Rattle.search.specs.Runs.{after_steps}
 use Rattle.search.specs.declared.search.Search.{Search}
 use Rattle.search.proofs.NextSteps.{next_kept}
@@ -29,6 +31,19 @@ module _ (S : Setting) (L : Limits) (σ : State) where
       let on : k + suc rest.made ≡ k + 1 + rest.made = omega arith in
       so_far ∙ ap (λ b. after_steps k (run_from S L b σ)) left ∙ ap (λ o. after_steps k (onward (n - (k + 1)) o)) (sym e)
       ∙ ap (λ m. record { reason = rest.reason; made = m; state = rest.state }) on
+
+-- a state by its parts, and the state of a search that has begun
+same_state : {p q : Part} {b c : Option Part} {x y : ℤ} {i j : ℕ} {g h : List Ground} → p ≡ q → b ≡ c → x ≡ y → i ≡ j → g ≡ h → ◌≡◌ {A = State} (record { part = p; best = b; cap = x; steps = i; learned = g }) (record { part = q; best = c; cap = y; steps = j; learned = h })
+same_state p b x i g = cc
+
+pub begun : (s t : Search) → SameBut s t → (t.best ≡ None) × (t.cap ≡ job_limits t 0) × (t.steps ≡ 0) → part_in s s.part ≡ replicate s.grid.places 1 → state_of s ≡ start (chosen_from t) (job_limits t) (held t.ledger)
+begun s t same fresh ones =
+    same_state
+    (ones ∙ ap (λ (g : Grid). replicate g.places 1) same.0.0)
+    (ap (best_in s) (same.2 ∙ fresh.0))
+    (same.3 ∙ fresh.1)
+    (same.4 ∙ fresh.2)
+    (ap held same.1)
 
 -- a search that began as s₀ and is s after k steps of a run
 module _ (s₀ s : Search) (n k : ℕ) (same : SameJob s s₀) (so_far : run_from (chosen_from s₀) (job_limits s₀) n (state_of s₀) ≡ after_steps k (run_from (chosen_from s₀) (job_limits s₀) (n - k) (state_of s))) where

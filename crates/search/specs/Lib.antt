@@ -2,8 +2,10 @@ pub mod Tables
 pub mod Made
 pub mod Settings
 pub mod Parts
+pub mod Sums
 pub mod States
 pub mod Listed
+pub mod Looks
 pub mod Trials
 pub mod Nexts
 pub mod Runs

@@ -27,9 +27,9 @@ outcome_of s (Makes step) = stepped (after s step)
 
 -- A step that the tables have space for; the price of the best is what it costs.
 abbrev pub ReadyStep : Search → Step → Type 0
-ReadyStep s (Set pick) = pick.index < s.grid.places
-ReadyStep s (Learn index d) = (index < s.grid.places) × (room (held s.ledger) (drafted d) ≡ true)
-ReadyStep s (Best price) = (unsigned_abs price ≤ reach (most_places + most_places)) × (price ≡ part_price (chosen_from s) (part_in s s.part))
+ReadyStep s (Set pick) = (pick.index < s.grid.places) × (s.part.opened ≤ pick.index + 1)
+ReadyStep s (Learn index d) = (index < s.grid.places) × (s.part.opened ≤ index + 1) × (room (held s.ledger) (drafted d) ≡ true)
+ReadyStep s (Best price) = (unsigned_abs price ≤ reach most_places) × (price ≡ part_price (chosen_from s) (part_in s s.part))
 
 -- So it is with what comes next, if it is a step.
 abbrev pub Ready : Search → Next → Type 0

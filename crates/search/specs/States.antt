@@ -1,16 +1,15 @@
 -- A search of the rules in its tables. Assumes nothing.
-use Rattle.std.specs.Prelude.{◌≡◌, ℕ, suc, ◌+◌, Bool, if◌then◌else◌, List, [], ◌∷◌, drop, ℤ, pos, Option, ◌==◌, slice_index_or}
+use Rattle.std.specs.Prelude.{◌≡◌, ℕ, suc, ◌+◌, if◌then◌else◌, List, [], ◌∷◌, ℤ, pos, Option, ◌==◌, slice_index_or}
 use Rattle.std.specs.Option.{option_map}
 use Rattle.rules.specs.declared.lines.Line.{Line}
 use Rattle.rules.specs.Sheets.{Limits}
 use Rattle.rules.specs.Choices.{capped}
-use Rattle.rules.specs.Grounds.{Setting, Part, Ground, with_amount, joined_above, ledger, first_standing, ground_in}
+use Rattle.rules.specs.Grounds.{Setting, Part, Ground, with_amount, ledger, first_standing, ground_in}
 use Rattle.rules.specs.Search.{State}
 use Rattle.ledger.specs.Model.{held}
 use Rattle.search.specs.Settings.{setting}
 use Rattle.search.specs.Parts as parts
 use Rattle.search.specs.declared.part as declared
-use Rattle.search.specs.declared.grid.Grid.{Grid}
 use Rattle.search.specs.declared.pick.Pick.{Pick}
 use Rattle.search.specs.declared.search.Search.{Search}
 
@@ -58,14 +57,6 @@ state_of s = record { part = part_in s s.part; best = best_in s s.best; cap = s.
 abbrev pub picked : List Ground → Option ℕ → Option Ground
 picked gs found = option_map (λ i. slice_index_or gs i []) found
 
--- What a line comes to at a part-choice: its constant, joined with the amounts of its row at the positions above its level.
-abbrev pub comes_to : Grid → declared.Part.Part → Line → ℤ
-comes_to g p l = joined_above (setting g) l.row l.level l.constant (drop l.level (parts.versions_of g.places p))
-
--- That is worse than a limit.
-abbrev pub breaks : Grid → declared.Part.Part → Line → ℤ → Bool
-breaks g p l limit = ((setting g).joining l.row).worse (comes_to g p l) limit
-
 -- A line as it is learned at a position from a ground that stands with a version there.
 abbrev pub moved_at : Setting → ℕ → ℕ → Line → Line
 moved_at S p v l =
@@ -84,3 +75,7 @@ pick_of s t v = ground_in (first_standing (chosen_from s) (force s) (grounds s) 
 -- Two searches choose from one grid, under the same limits.
 abbrev pub SameJob : Search → Search → Type 0
 SameJob s t = (s.grid ≡ t.grid) × (s.limits ≡ t.limits)
+
+-- And more: but for the part-choice, they are the same.
+abbrev pub SameBut : Search → Search → Type 0
+SameBut s t = SameJob s t × (s.ledger ≡ t.ledger) × (s.best ≡ t.best) × (s.cap ≡ t.cap) × (s.steps ≡ t.steps)

@@ -1,8 +1,12 @@
 -- How the tables of a grid are read, and what they keep. Assumes nothing.
-use Rattle.std.specs.Prelude.{◌≡◌, ℕ, ◌-◌, ◌<◌, ◌≤◌, Bool, if◌then◌else◌, ◌&&◌, List, [], length, ℤ, pos, nat_le, slice_index_or, unsigned_abs}
+use Rattle.std.specs.Prelude.{◌≡◌, ℕ, suc, ◌-◌, ◌<◌, ◌≤◌, Bool, if◌then◌else◌, ◌&&◌, List, [], length, ℤ, pos, nat_le, slice_index_or, unsigned_abs}
 use Rattle.rules.specs.Bounds.{most_places, most_versions, most_rows, greatest_amount}
 use Rattle.search.specs.declared.position.Amounts.{Amounts}
 use Rattle.search.specs.declared.position.Position.{Position}
+
+-- How many levels there may be: from 0 to the number of places.
+abbrev pub most_levels : ℕ
+most_levels = suc most_places
 
 -- The amounts of a version that there is not.
 abbrev pub no_amounts : Amounts

@@ -1,5 +1,5 @@
 -- What is tried at a place of a search. Assumes nothing.
-use Rattle.std.specs.Prelude.{Bool, List, Option}
+use Rattle.std.specs.Prelude.{ℕ, ◌+◌, Bool, List, Option}
 use Rattle.rules.specs.declared.lines.Line.{Line}
 use Rattle.rules.specs.Grounds.{Part, Ground, line_stands, stands, first_standing}
 use Rattle.search.specs.States.{chosen_from, force, part_in, above}
@@ -25,3 +25,7 @@ first_at t gs = first_standing (chosen_from t.search.now) (force t.search.now) g
 -- The part-choice of the positions above a place.
 abbrev pub above_place : Place → Part
 above_place p = above p.search.now p.index
+
+-- How many versions a place has.
+abbrev pub versions_at : Place → ℕ
+versions_at p = (chosen_from p.search.now).versions (p.index + 1)

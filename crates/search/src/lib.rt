@@ -10,6 +10,7 @@ mod part;
 mod pick;
 mod position;
 mod search;
+mod sums;
 
 pub use closing::Closing;
 pub use found::{Finding, Ran, Verdict, Why};

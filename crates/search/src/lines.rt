@@ -1,5 +1,6 @@
-// What is done with one line, for every joining: nothing is asked of a joining but its laws.
-ghost use Rattle.std.specs.Prelude.{◌≡◌};
+// What is done with one row, for every joining: nothing is asked of a joining but its laws.
+ghost use Rattle.std.specs.Prelude.{◌≡◌, ◌≤◌};
+ghost use Rattle.rules.specs.Bounds.{greatest_row};
 ghost use Rattle.ledger.specs.Lines.{Near};
 ghost use Rattle.search.specs.Settings.{setting};
 
@@ -15,14 +16,14 @@ pub(crate) struct NearLine {
     ghost near: { Near line },
 }
 
-// A line of a ground over a grid, in which its row has the joining J.
+// A row of a grid, which has the joining J.
 #[derive(Drop)]
-pub(crate) struct LineIn<'g, J: Joining> {
+pub(crate) struct RowIn<'g, J: Joining> {
     grid: &'g Grid,
-    line: Line,
+    row: u8,
     joining: PhantomData<J>,
-    ghost near: { Near line },
-    ghost joined: { (setting grid.now).joining line.row ≡ J.rule },
+    ghost there: { row ≤ greatest_row },
+    ghost joined: { (setting grid.now).joining row ≡ J.rule },
 }
 
 mod joins;

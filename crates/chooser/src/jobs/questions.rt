@@ -25,7 +25,7 @@ impl<C: Catalogue> ClosedJob<C> {
         ensures { result ≡ limit_told self.now.sheet (kept_closed self.now.opened) row }
     {
         match &self.opened {
-            Ok(closed) if row <= self.sheet.last_row => Ok(closed.limits[usize::from(row)]),
+            Ok(closed) if row <= self.sheet.last_row => Ok(closed.search.limit(row)),
             Ok(_) => Err(Fault::from(Refusal::NoSuchRow)),
             Err(fault) => Err(*fault),
         }

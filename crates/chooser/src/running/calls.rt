@@ -1,7 +1,6 @@
 // The calls on a running job without fault.
 ghost use Rattle.std.specs.Prelude.{◌≡◌};
 ghost use Rattle.rules.specs.Calls.{reply, run as run_call, close as close_call};
-ghost use Rattle.search.specs.Settings.{setting};
 ghost use Rattle.search.specs.States.{chosen_from};
 ghost use Rattle.search.specs.Runs.{run_answer};
 ghost use Rattle.chooser.specs.Models.{closed_of, searched_of};
@@ -27,14 +26,11 @@ impl Running {
     // Ends the search with a verdict on it.
     pub(crate) fn close(self) -> Closed
         ensures job { closed_of result ≡ (reply (chosen_from self.search) (searched_of self) close_call).job }
-        ensures grid { setting result.grid ≡ chosen_from self.search }
+        ensures grid { chosen_from result.search ≡ chosen_from self.search }
     {
         let verdict = Some(self.search.verdict());
-        let (grid, limits, ledger) = self.search.take_apart();
         Closed {
-            grid,
-            limits,
-            ledger,
+            search: self.search,
             verdict,
         }
     }

@@ -3,10 +3,11 @@ ghost use Rattle.std.specs.Prelude.{◌≡◌, ◌≤◌, [], length, slice_inde
 ghost use Rattle.rules.specs.Bounds.{most_grounds, most_lines};
 ghost use Rattle.rules.specs.Search.{room, line_count};
 ghost use Rattle.ledger.specs.Lines.{AllNear};
+ghost use Rattle.ledger.specs.Tables.{lowest_level};
 ghost use Rattle.ledger.specs.Model.{held};
 
 use crate::table::Ledger;
-use rules::Line;
+use rules::{Line, MOST_PLACES};
 
 impl Ledger {
     // How many grounds there are.
@@ -42,6 +43,17 @@ impl Ledger {
         match self.grounds.get(index) {
             Some(record) => &self.lines[record.start..record.end],
             None => &[],
+        }
+    }
+
+    // The lowest level of the ground at an index, told without a look at its lines.
+    #[tactic(auto, using(crate::proofs::LowestLevels::record_told))]
+    pub fn lowest_level(&self, index: usize) -> u8
+        ensures { result ≡ lowest_level (slice_index_or (held self.now) index []) }
+    {
+        match self.grounds.get(index) {
+            Some(record) => record.lowest,
+            None => MOST_PLACES as u8,
         }
     }
 }

@@ -12,7 +12,7 @@ use crate::records::GroundRecord;
 use crate::table::Ledger;
 use crate::unheld::Unheld;
 use arrayvec::ArrayVec;
-use rules::Line;
+use rules::{Line, MOST_PLACES};
 
 impl Ledger {
     // A ledger with no ground.
@@ -39,7 +39,11 @@ impl Ledger {
         ensures { held self.new ≡ held self.old ++ [] ∷ [] }
     {
         let at = self.lines.len();
-        self.grounds.push(GroundRecord { start: at, end: at });
+        self.grounds.push(GroundRecord {
+            start: at,
+            end: at,
+            lowest: MOST_PLACES as u8,
+        });
     }
 
     // Writes one line, behind those of the newest ground. By a rule of the project one element is written by a method of its own.
@@ -50,8 +54,13 @@ impl Ledger {
         ensures { (older : List Ground) (newest : Ground) → held self.old ≡ older ++ newest ∷ [] → held self.new ≡ older ++ (newest ++ line ∷ []) ∷ [] }
     {
         let newest = self.grounds.len() - 1;
+        let record = self.grounds[newest];
         self.lines.push(line);
-        self.grounds[newest].end = self.lines.len();
+        self.grounds[newest] = GroundRecord {
+            start: record.start,
+            end: self.lines.len(),
+            lowest: record.lowest.min(line.level),
+        };
     }
 
     // Adds a ground behind the others; nothing is altered where there is no space for it, or a line is none that the tables hold.

@@ -1,21 +1,20 @@
 // How a part-choice is read and changed.
-ghost use Rattle.std.specs.Prelude.{◌≡◌, ℕ, ◌<◌, ◌≤◌, ◌∷◌, replicate, slice_index};
+ghost use Rattle.std.specs.Prelude.{◌≡◌, replicate, slice_index, slice_set};
 ghost use Rattle.rules.specs.Bounds.{most_places};
-ghost use Rattle.search.specs.Parts.{part_of, above};
 
 use crate::part::Part;
 use crate::pick::Pick;
 use rules::MOST_PLACES;
 
 impl Part {
-    // Version 1 everywhere.
-    pub(crate) fn first() -> Part
-        ensures part { (n : ℕ) → n ≤ most_places → part_of n result ≡ replicate n 1 }
-        ensures opened { result.opened ≡ 0 }
+    // Version 1 everywhere, and so many places open.
+    pub(crate) fn first(opened: usize) -> Part
+        ensures versions { result.versions ≡ replicate most_places 1 }
+        ensures opened { result.opened ≡ opened }
     {
         Part {
             versions: [1; MOST_PLACES],
-            opened: 0,
+            opened,
         }
     }
 
@@ -44,8 +43,8 @@ impl Part {
 
     // The same with a version picked for a place, and the places below it open.
     pub(crate) fn with(self, pick: Pick) -> Part
+        ensures versions { result.versions ≡ slice_set self.versions pick.index pick.version }
         ensures opened { result.opened ≡ pick.index }
-        ensures part { (n : ℕ) → pick.index < n → n ≤ most_places → part_of n result ≡ pick.version ∷ above n self pick.index }
     {
         let mut versions = self.versions;
         versions[pick.index] = pick.version;

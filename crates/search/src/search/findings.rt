@@ -4,11 +4,8 @@ ghost use Rattle.search.specs.Findings.{finding_of, verdict_of, cut_finding, cut
 
 use crate::closing::Closing;
 use crate::found::{Finding, Verdict};
-use crate::grid::Grid;
 use crate::next::Next;
 use crate::search::Search;
-use ledger::Ledger;
-use rules::MOST_ROWS;
 
 impl Search {
     // What the search has found.
@@ -38,20 +35,5 @@ impl Search {
             steps: self.steps,
             held: self.ledger.count(),
         }
-    }
-
-    // Gives back the grid, the limits and the ledger.
-    pub fn take_apart(self) -> (Grid, [i64; MOST_ROWS], Ledger)
-        ensures grid { result.0 ≡ self.grid }
-        ensures limits { result.1 ≡ self.limits }
-        ensures ledger { result.2 ≡ self.ledger }
-    {
-        let Search {
-            grid,
-            limits,
-            ledger,
-            ..
-        } = self;
-        (grid, limits, ledger)
     }
 }

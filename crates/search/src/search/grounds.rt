@@ -1,6 +1,7 @@
 // The grounds by their index: the starting ground of each row in turn, and then the learned ones.
 ghost use Rattle.std.specs.Prelude.{◌≡◌, [], length, slice_index_or};
 ghost use Rattle.ledger.specs.Lines.{AllNear};
+ghost use Rattle.ledger.specs.Tables.{lowest_level};
 ghost use Rattle.search.specs.Listed.{lines_of};
 ghost use Rattle.search.specs.States.{grounds};
 
@@ -44,6 +45,18 @@ impl Search {
             Ground::Starting([self.starting_line(index as u8).line])
         } else {
             Ground::Learned(self.ledger.ground(index - last - 1))
+        }
+    }
+
+    // The lowest level of the ground at an index.
+    pub(super) fn lowest_level(&self, index: usize) -> usize
+        ensures { result ≡ lowest_level (slice_index_or (grounds self.now) index []) }
+    {
+        let last = self.grid.last_row();
+        if index <= last {
+            0
+        } else {
+            usize::from(self.ledger.lowest_level(index - last - 1))
         }
     }
 }

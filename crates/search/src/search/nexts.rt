@@ -1,28 +1,57 @@
 // What comes next in a search.
-ghost use Rattle.std.specs.Prelude.{◌≡◌, ◌+◌, ◌≤◌, unsigned_abs};
+ghost use Rattle.std.specs.Prelude.{◌≡◌, ◌+◌, ◌<◌, ◌≤◌, length, IfSome, unsigned_abs};
 ghost use Rattle.rules.specs.Bounds.{most_places};
 ghost use Rattle.rules.specs.Grounds.{part_price};
-ghost use Rattle.rules.specs.Search.{next as named};
+ghost use Rattle.rules.specs.Search.{first_ground, go_on, next as named};
 ghost use Rattle.ledger.specs.Lines.{reach};
-ghost use Rattle.search.specs.States.{chosen_from, job_limits, part_in, state_of};
+ghost use Rattle.search.specs.States.{chosen_from, job_limits, grounds, picked, above, part_in, state_of};
+ghost use Rattle.search.specs.Looks.{Passed, PassedAt};
 ghost use Rattle.search.specs.Nexts.{outcome_of, Ready};
 
-use crate::lines::{LineIn, NearLine};
 use crate::next::{Next, Step};
 use crate::search::Search;
 use crate::search::place::Place;
 use crate::search::trial::Trial;
-use joining::SumAtMost;
 
 impl Search {
     // What the choice costs, no place being open.
     fn price(&self) -> i64
         requires { self.now.part.opened ≡ 0 }
         ensures is { result ≡ part_price (chosen_from self.now) (part_in self.now self.now.part) }
-        ensures near { unsigned_abs result ≤ reach (most_places + most_places) }
+        ensures near { unsigned_abs result ≤ reach most_places }
     {
-        let line = LineIn::<SumAtMost>::starting(0);
-        LineIn::<SumAtMost>::new(&self.grid, NearLine { line }).joined_above(&self.part)
+        self.sums[0].rows[0]
+    }
+
+    // The first ground that stands at the part-choice of the search, by its index.
+    fn standing(&self) -> Option<usize>
+        ensures first { picked (grounds self.now) result ≡ first_ground (chosen_from self.now) (job_limits self.now) (state_of self.now) (part_in self.now self.now.part) }
+        ensures there { IfSome result (λ i. i < length (grounds self.now)) }
+        ensures passed { IfSome result (Passed self.now (part_in self.now self.now.part)) }
+    {
+        let part = self.part;
+        let trial = Trial {
+            search: self,
+            part,
+            totals: self.sums[part.opened()],
+        };
+        trial.first_standing()
+    }
+
+    // What comes next at a place; with the version that it has no ground below an index stands.
+    fn at_place(&self, index: usize, passed: usize) -> Next
+        requires there { index < self.now.grid.places }
+        requires next { self.now.part.opened ≤ index + 1 }
+        requires passed { PassedAt self.now index passed }
+        ensures outcome { outcome_of self.now result ≡ go_on (chosen_from self.now) (job_limits self.now) (state_of self.now) (above self.now index) }
+        ensures ready { Ready self.now result }
+    {
+        let place = Place {
+            search: self,
+            index,
+            passed,
+        };
+        place.go_on()
     }
 
     // What comes next: with a ground standing, at the lowest place that is set, if one is; else the choice is the best, or the last open
@@ -32,23 +61,11 @@ impl Search {
         ensures ready { Ready self.now result }
     {
         let opened = self.part.opened();
-        let trial = Trial {
-            search: self,
-            part: self.part,
-        };
-        match trial.first_standing() {
+        match self.standing() {
             Some(ground) if opened == self.grid.places() => Next::Ended(ground),
-            Some(_) => Place {
-                search: self,
-                index: opened,
-            }
-            .go_on(),
+            Some(ground) => self.at_place(opened, ground),
             None if opened == 0 => Next::Makes(Step::Best(self.price())),
-            None => Place {
-                search: self,
-                index: opened - 1,
-            }
-            .go_on(),
+            None => self.at_place(opened - 1, 0),
         }
     }
 }

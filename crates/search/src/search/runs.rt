@@ -1,23 +1,20 @@
 // How a search runs.
 ghost use Rattle.std.specs.Prelude.{◌≡◌, ◌+◌, ◌<◌, ◌≤◌, true, [], ◌∷◌, ◌++◌, pos};
 ghost use Rattle.rules.specs.Bounds.{most_steps};
-ghost use Rattle.rules.specs.Search.{start as started, room};
+ghost use Rattle.rules.specs.Search.{room};
 ghost use Rattle.rules.specs.Calls.{run as run_call, run_from, reply};
 ghost use Rattle.ledger.specs.Drafted.{drafted};
 ghost use Rattle.ledger.specs.Model.{held};
-ghost use Rattle.search.specs.Settings.{setting};
-ghost use Rattle.search.specs.States.{chosen_from, limits_of, job_limits, state_of, SameJob};
+ghost use Rattle.search.specs.States.{chosen_from, job_limits, state_of, SameJob};
 ghost use Rattle.search.specs.Findings.{learned_shaped};
 ghost use Rattle.search.specs.Nexts.{after, ReadyStep};
 ghost use Rattle.search.specs.Runs.{ran_of, running_of, run_answer};
 
 use crate::found::{Ran, Why};
-use crate::grid::Grid;
 use crate::next::{Next, Step};
-use crate::part::Part;
 use crate::search::Search;
 use ledger::{Draft, Ledger};
-use rules::{MOST_ROWS, MOST_STEPS, Refusal};
+use rules::{MOST_STEPS, Refusal};
 
 // Adds a ground to a ledger that has space for it.
 fn add_ground(ledger: &mut Ledger, draft: &Draft)
@@ -30,24 +27,6 @@ fn add_ground(ledger: &mut Ledger, draft: &Draft)
 }
 
 impl Search {
-    // Begins a search.
-    pub fn start(grid: Grid, limits: [i64; MOST_ROWS], ledger: Ledger) -> Search
-        ensures state { state_of result ≡ started (setting grid) (limits_of limits) (held ledger) }
-        ensures grid { result.grid ≡ grid }
-        ensures limits { result.limits ≡ limits }
-    {
-        let cap = limits[0];
-        Search {
-            grid,
-            limits,
-            ledger,
-            part: Part::first(),
-            best: None,
-            cap,
-            steps: 0,
-        }
-    }
-
     // Makes a step.
     fn make(&mut self, step: Step)
         requires ready { ReadyStep self.old step }
@@ -58,7 +37,7 @@ impl Search {
     {
         match step {
             Step::Set(pick) => {
-                self.part = self.part.with(pick);
+                self.set(pick);
             }
             Step::Learn(index, draft) => {
                 add_ground(&mut self.ledger, &draft);

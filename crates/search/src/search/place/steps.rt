@@ -14,10 +14,11 @@ impl Place<'_> {
         ensures outcome { let s = self.now.search.now in outcome_of s result ≡ go_on (chosen_from s) (job_limits s) (state_of s) (above_place self.now) }
         ensures ready { Ready self.now.search.now result }
     {
-        match self.free_version() {
+        let looked = self.look();
+        match looked.free {
             Some(version) => Next::Makes(Step::Set(self.pick(version))),
             None => {
-                let draft = self.learn();
+                let draft = self.learn(looked.stopped);
                 if self.search.ledger.has_room(draft.lines()) {
                     Next::Makes(Step::Learn(self.index, draft))
                 } else {

@@ -1,7 +1,10 @@
 // Which grounds stand.
-ghost use Rattle.std.specs.Prelude.{◌≡◌, ◌<◌, [], length, IfSome, slice_index_or};
+ghost use Rattle.std.specs.Prelude.{◌≡◌, ◌<◌, ◌≤◌, [], length, drop, IfSome, slice_index_or};
 ghost use Rattle.ledger.specs.Lines.{AllNear};
-ghost use Rattle.search.specs.States.{grounds, picked};
+ghost use Rattle.rules.specs.Bounds.{greatest_row};
+ghost use Rattle.search.specs.Parts.{versions_of};
+ghost use Rattle.search.specs.Sums.{total_above};
+ghost use Rattle.search.specs.States.{chosen_from, grounds, picked};
 ghost use Rattle.search.specs.Trials.{line_holds, holds, first_at};
 
 use crate::lines::NearLine;
@@ -9,12 +12,31 @@ use crate::search::trial::Trial;
 use rules::Line;
 
 impl Trial<'_> {
+    // What the amounts of a row above a level come to; above the top level there are none.
+    fn above(&self, level: usize, row: u8) -> Option<i64>
+        requires open { self.now.part.opened ≤ level }
+        requires row { row ≤ greatest_row }
+        ensures { let s = self.now.search.now in result ≡ total_above (chosen_from s) row (drop level (versions_of s.grid.places self.now.part)) }
+    {
+        let row = usize::from(row);
+        if level >= self.search.grid.places() {
+            None
+        } else if level == self.part.opened() {
+            Some(self.totals.rows[row])
+        } else {
+            Some(self.search.sums[level].rows[row])
+        }
+    }
+
     // A line stands when its level is at least the number of open places, and what it comes to is worse than the limit of its row.
     fn line_stands(&self, near: NearLine) -> bool
         ensures { result ≡ line_holds self.now near.line }
     {
-        self.part.opened() <= usize::from(near.line.level)
-            && self.search.breaks_limit(&self.part, near)
+        let level = usize::from(near.line.level);
+        self.part.opened() <= level
+            && self
+                .search
+                .breaks_limit(near, self.above(level, near.line.row))
     }
 
     // A ground stands when each of its lines does; by a rule of the project a plain loop, left at the first that doesn't.
@@ -30,11 +52,12 @@ impl Trial<'_> {
         true
     }
 
-    // Whether the ground at an index stands.
+    // Whether the ground at an index stands; if its lowest level is that of an open place it doesn't, whatever its lines.
     pub(crate) fn ground_stands(&self, index: usize) -> bool
         ensures { result ≡ holds self.now (slice_index_or (grounds self.now.search.now) index []) }
     {
-        self.lines_stand(self.search.ground(index).lines())
+        self.part.opened() <= self.search.lowest_level(index)
+            && self.lines_stand(self.search.ground(index).lines())
     }
 
     // The first ground that stands, by its index.

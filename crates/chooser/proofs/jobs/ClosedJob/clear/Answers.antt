@@ -1,6 +1,7 @@
 use Rattle.std.proofs.Common.{refl, ap, sym}
 use Rattle.rules.specs.Calls.{clear}
-use Rattle.search.specs.Settings.{setting}
+use Rattle.search.specs.Settings.{setting as grid_setting}
+use Rattle.search.specs.States.{chosen_from}
 use Rattle.rules.specs.KeptJobs.{told_on}
 use Rattle.rules.specs.Settings as rules
 use Rattle.chooser.specs.Models.{closed_of, kept_closed}
@@ -14,8 +15,8 @@ invariant_of-self g c =
     let before = c.in-Ok.closed in
     let after = c.clear.new.self in
     let kept =
-    goes_on m j.sheet clear (closed_of before) (closed_of after) (setting before.grid) (setting after.grid)
-    (ap setting c.clear.ensures.grid) c.clear.ensures.job (in_closed m j.sheet _ before c.in-Ok.is (j.seen, j.came))
+    goes_on m j.sheet clear (closed_of before) (closed_of after) (chosen_from before.search) (chosen_from after.search)
+    (ap grid_setting c.clear.ensures.grid) c.clear.ensures.job (in_closed m j.sheet _ before c.in-Ok.is (j.seen, j.came))
     in
     record { seen = kept.0; came = kept.1 }
 

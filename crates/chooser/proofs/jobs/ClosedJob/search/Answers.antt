@@ -2,7 +2,7 @@ use Rattle.std.proofs.Common.{refl, ap, sym}
 use Rattle.rules.specs.Calls.{begin_search}
 use Rattle.rules.specs.KeptJobs.{told_on}
 use Rattle.rules.specs.Settings as rules
-use Rattle.search.specs.Settings.{setting}
+use Rattle.search.specs.States.{chosen_from}
 use Rattle.search.specs.States.{chosen_from}
 use Rattle.chooser.specs.Models.{closed_of, kept_closed, searched_of}
 use Rattle.chooser.proofs.Comings.{goes_on, in_closed, in_faulty}
@@ -15,7 +15,7 @@ invariant_of-job g c =
     let before = c.in-Ok.closed in
     let after = c.search.result in
     let kept =
-    goes_on m j.sheet begin_search (closed_of before) (searched_of after) (setting before.grid) (chosen_from after.search)
+    goes_on m j.sheet begin_search (closed_of before) (searched_of after) (chosen_from before.search) (chosen_from after.search)
     c.search.ensures.grid c.search.ensures.job (in_closed m j.sheet _ before c.in-Ok.is (j.seen, j.came))
     in
     record { seen = kept.0; came = kept.1 }

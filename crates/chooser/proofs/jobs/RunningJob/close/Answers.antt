@@ -2,7 +2,6 @@ use Rattle.std.proofs.Common.{refl, ap, sym}
 use Rattle.rules.specs.Calls.{close}
 use Rattle.rules.specs.KeptJobs.{told_on}
 use Rattle.rules.specs.Settings as rules
-use Rattle.search.specs.Settings.{setting}
 use Rattle.search.specs.States.{chosen_from}
 use Rattle.chooser.specs.Models.{closed_of, kept_running, searched_of}
 use Rattle.chooser.proofs.Comings.{goes_on, in_running, in_faulty_running}
@@ -15,7 +14,7 @@ invariant_of-job g c =
     let before = c.in-Ok.running in
     let after = c.close.result in
     let kept =
-    goes_on m j.sheet close (searched_of before) (closed_of after) (chosen_from before.search) (setting after.grid)
+    goes_on m j.sheet close (searched_of before) (closed_of after) (chosen_from before.search) (chosen_from after.search)
     c.close.ensures.grid c.close.ensures.job (in_running m j.sheet _ before c.in-Ok.is (j.seen, j.came))
     in
     record { seen = kept.0; came = kept.1 }

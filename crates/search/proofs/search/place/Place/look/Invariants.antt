@@ -1,13 +1,19 @@
-use Rattle.std.proofs.Common.{◌≡◌, ◌+◌, ◌-◌, ◌≤◌, drop, None}
+use Rattle.std.proofs.Common.{◌≡◌, ◌+◌, ◌-◌, ◌≤◌, drop, length, None}
+use Rattle.rules.specs.Bounds.{most_versions}
 use Rattle.rules.specs.Search.{lowest_free}
 use Rattle.search.specs.States.{chosen_from, job_limits, grounds, state_of}
+use Rattle.search.specs.Looks.{StoodTo}
 use Rattle.search.specs.Trials.{first_at, above_place}
-use Rattle.search.proofs.search.place.Place.free_version.Given as goal
+use Rattle.search.proofs.search.place.Place.look.Given as goal
 
 abbrev pub invariant-loop-ground : goal.invariant-loop-ground
 invariant-loop-ground l =
     let gs = grounds l.trial.search.now in
-    first_at l.trial gs ≡ first_at l.trial (drop l.ground gs)
+    record {
+      passed : first_at l.trial gs ≡ first_at l.trial (drop l.ground gs);
+      long : length l.stopped ≡ most_versions;
+      stood : StoodTo l.self.search.now (above_place l.self) (l.version - 1) l.stopped;
+    }
 
 abbrev pub invariant-versions : goal.invariant-versions
 invariant-versions l =
@@ -16,4 +22,6 @@ invariant-versions l =
       none : l.free ≡ None;
       below : lowest_free (chosen_from s) (job_limits s) (state_of s) (above_place l.self) (l.version - 1) ≡ None;
       last : l.version ≤ l.version-end + 1;
+      long : length l.stopped ≡ most_versions;
+      stood : StoodTo s (above_place l.self) (l.version - 1) l.stopped;
     }
