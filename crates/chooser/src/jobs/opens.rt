@@ -7,7 +7,6 @@ ghost use Rattle.rules.specs.KeptJobs.{opened_with};
 ghost use Rattle.search.specs.States.{limits_of};
 ghost use Rattle.chooser.specs.Models.{setting_closed, kept_closed};
 
-
 use crate::jobs::ClosedJob;
 use crate::opened::Opened;
 use catalogue::Catalogue;
