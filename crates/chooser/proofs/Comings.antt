@@ -13,8 +13,7 @@ use Rattle.rules.specs.KeptJobs.{CameBy, KeptJob, faultless, faulty, job_by, ope
 use Rattle.rules.proofs.Comings.{came_on}
 use Rattle.rules.proofs.Works.{record_law}
 use Rattle.chooser.specs.Models.{closed_of, kept_closed, kept_running, searched_of, setting_closed, setting_running}
-use Rattle.chooser.specs.declared.closed.Closed.{Closed}
-use Rattle.chooser.specs.declared.running.Running.{Running}
+use Rattle.chooser.specs.declared.opened.Opened.{Opened}
 
 -- a job as it is opened has come about by no call
 pub came_first : (m : Meaning) → SoundMeaning m → (s : Sheet) (k : KeptJob) → k ≡ opened_with s (opening m s) → ∥ ((es : List Entry) × CameBy m s es k) ∥₁
@@ -39,15 +38,15 @@ module _ (m : Meaning) (s : Sheet) where
       (same ∙ h.0, came_after c (faultless j) (faultless k) (ap faultless (done ∙ ap (λ S. (reply S j c).job) h.0)) h.1)
 
   -- what a closed job keeps, without a fault and with one
-  pub in_closed : (o : Result Closed Fault) (c : Closed) → o ≡ Ok c → Sound (setting_closed (setting m s) o) (kept_closed o) → Sound (setting_closed (setting m s) (Ok c)) (faultless (closed_of c))
+  pub in_closed : (o : Result Opened Fault) (c : Opened) → o ≡ Ok c → Sound (setting_closed (setting m s) o) (kept_closed o) → Sound (setting_closed (setting m s) (Ok c)) (faultless (closed_of c))
   in_closed o c e h = subst (λ o. Sound (setting_closed (setting m s) o) (kept_closed o)) e h
 
-  pub in_faulty : (o : Result Closed Fault) (f : Fault) → o ≡ Err f → Came (kept_closed o) → Came (faulty f)
+  pub in_faulty : (o : Result Opened Fault) (f : Fault) → o ≡ Err f → Came (kept_closed o) → Came (faulty f)
   in_faulty o f e h = subst (λ o. Came (kept_closed o)) e h
 
   -- the same of a running one
-  pub in_running : (o : Result Running Fault) (r : Running) → o ≡ Ok r → Sound (setting_running (setting m s) o) (kept_running o) → Sound (setting_running (setting m s) (Ok r)) (faultless (searched_of r))
+  pub in_running : (o : Result Opened Fault) (r : Opened) → o ≡ Ok r → Sound (setting_running (setting m s) o) (kept_running o) → Sound (setting_running (setting m s) (Ok r)) (faultless (searched_of r))
   in_running o r e h = subst (λ o. Sound (setting_running (setting m s) o) (kept_running o)) e h
 
-  pub in_faulty_running : (o : Result Running Fault) (f : Fault) → o ≡ Err f → Came (kept_running o) → Came (faulty f)
+  pub in_faulty_running : (o : Result Opened Fault) (f : Fault) → o ≡ Err f → Came (kept_running o) → Came (faulty f)
   in_faulty_running o f e h = subst (λ o. Came (kept_running o)) e h

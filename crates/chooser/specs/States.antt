@@ -1,5 +1,6 @@
 -- Jobs in either state. Assumes nothing.
 use Rattle.rules.specs.declared.sheets.Sheet.{Sheet}
+use Rattle.rules.specs.Calls.{Call, begin_search, close}
 use Rattle.rules.specs.KeptJobs.{KeptJob}
 use Rattle.chooser.specs.Models.{kept_closed, kept_running}
 use Rattle.chooser.specs.declared.driver.Job.{Job}
@@ -19,3 +20,8 @@ sheet_of (Running j) = j.sheet
 abbrev pub catalogue_of : {D : Type 0} {g : _} → Job D g → D
 catalogue_of (Closed j) = j.catalogue
 catalogue_of (Running j) = j.catalogue
+
+-- The call that ends the state of a job: a closed one begins a search, a running one is closed.
+abbrev pub turn_of : {D : Type 0} {g : _} → Job D g → Call
+turn_of (Closed j) = begin_search
+turn_of (Running j) = close

@@ -5,8 +5,7 @@ ghost use Rattle.rules.specs.Settings.{setting};
 ghost use Rattle.rules.specs.KeptJobs.{CameBy};
 ghost use Rattle.chooser.specs.Models.{setting_closed, setting_running, kept_closed, kept_running};
 
-use crate::closed::Closed;
-use crate::running::Running;
+use crate::opened::Opened;
 use catalogue::Catalogue;
 use rules::{Fault, Sheet};
 
@@ -15,7 +14,7 @@ use rules::{Fault, Sheet};
 pub struct ClosedJob<C: Catalogue> {
     pub(crate) sheet: Sheet,
     pub(crate) catalogue: C,
-    pub(crate) opened: Result<Closed, Fault>,
+    pub(crate) opened: Result<Opened, Fault>,
     ghost seen: { setting_closed (setting (C.meaning catalogue) sheet) opened ≡ setting (C.meaning catalogue) sheet },
     ghost came: { ∥ ((es : List Entry) × CameBy (C.meaning catalogue) sheet es (kept_closed opened)) ∥₁ },
 }
@@ -25,7 +24,7 @@ pub struct ClosedJob<C: Catalogue> {
 pub struct RunningJob<C: Catalogue> {
     pub(crate) sheet: Sheet,
     pub(crate) catalogue: C,
-    pub(crate) opened: Result<Running, Fault>,
+    pub(crate) opened: Result<Opened, Fault>,
     ghost seen: { setting_running (setting (C.meaning catalogue) sheet) opened ≡ setting (C.meaning catalogue) sheet },
     ghost came: { ∥ ((es : List Entry) × CameBy (C.meaning catalogue) sheet es (kept_running opened)) ∥₁ },
 }

@@ -1,11 +1,10 @@
 // Jobs: their opening, the calls on them, and lists of call records.
 #![tactic(auto)]
 
-mod closed;
 mod driver;
 mod jobs;
+mod opened;
 mod requests;
-mod running;
 mod verdicts;
 mod whole;
 

@@ -6,7 +6,7 @@ use Rattle.rules.specs.Catalogues.{Meaning}
 use Rattle.rules.specs.KeptJobs.{KeptJob, faulty, seen_of}
 use Rattle.chooser.specs.declared.driver.Job.{Job}
 use Rattle.chooser.specs.declared.driver.Job.TheVariants.{Closed, Running}
-use Rattle.chooser.specs.declared.running.Running as running
+use Rattle.chooser.specs.declared.opened.Opened.{Opened}
 use Rattle.chooser.specs.Models.{kept_running}
 use Rattle.chooser.specs.States.{kept_of}
 use Rattle.report.specs.Reports.{closing_text, verdict_text}
@@ -21,7 +21,7 @@ module _ (m : Meaning) (s : Sheet) where
   abbrev pub KeepsFault : KeptJob → KeptJob → Type 0
   KeepsFault j k = (f : Fault) → j ≡ faulty f → k ≡ faulty f
 
-  closed_running : (o : Result running.Running Fault) (k : KeptJob) → KeepsFault (kept_running o) k → closing_text m s (kept_running o) k ≡ said k
+  closed_running : (o : Result Opened Fault) (k : KeptJob) → KeepsFault (kept_running o) k → closing_text m s (kept_running o) k ≡ said k
   closed_running (Ok r) k h = refl
   closed_running (Err f) k h = sym (ap said (h f refl))
 

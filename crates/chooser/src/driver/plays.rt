@@ -23,9 +23,15 @@ impl<C: Catalogue> ClosedJob<C> {
     {
         let mut job = Job::Closed(self);
         for record in records.iter_mut() {
-            let (next, answer) = job.take(record.request);
-            job = next;
-            record.answer = answer;
+            let request = record.request;
+            record.answer = match job.take_in_place(request) {
+                Some(answer) => answer,
+                None => {
+                    let (next, answer) = job.turn(request);
+                    job = next;
+                    answer
+                }
+            };
         }
         job.closed()
     }

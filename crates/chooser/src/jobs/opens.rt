@@ -7,8 +7,8 @@ ghost use Rattle.rules.specs.KeptJobs.{opened_with};
 ghost use Rattle.search.specs.States.{limits_of};
 ghost use Rattle.chooser.specs.Models.{setting_closed, kept_closed};
 
-use crate::closed::Closed;
 use crate::jobs::ClosedJob;
+use crate::opened::Opened;
 use catalogue::Catalogue;
 use opening::check;
 use rules::{Fault, MOST_ROWS, Sheet};
@@ -36,12 +36,12 @@ fn limits_in(sheet: Sheet) -> [i64; MOST_ROWS]
 }
 
 // What a job comes to when it is opened, or the fault that is found.
-fn opened_in<C: Catalogue>(sheet: Sheet, catalogue: &C) -> Result<Closed, Fault>
+fn opened_in<C: Catalogue>(sheet: Sheet, catalogue: &C) -> Result<Opened, Fault>
     ensures job { kept_closed result ≡ opened_with sheet (opening (C.Catalogue.meaning catalogue.now) sheet) }
     ensures seen { let S = setting (C.Catalogue.meaning catalogue.now) sheet in setting_closed S result ≡ S }
 {
     let checked = check(&sheet, catalogue)?;
-    Ok(Closed::opened(Grid::of(&checked), limits_in(sheet)))
+    Ok(Opened::new(Grid::of(&checked), limits_in(sheet)))
 }
 
 impl<C: Catalogue> ClosedJob<C> {

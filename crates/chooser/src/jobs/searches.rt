@@ -24,11 +24,12 @@ impl<C: Catalogue> ClosedJob<C> {
             opened,
         } = self;
         match opened {
-            Ok(closed) => {
+            Ok(mut kept) => {
+                kept.search();
                 let job = RunningJob {
                     sheet,
                     catalogue,
-                    opened: Ok(closed.search()),
+                    opened: Ok(kept),
                 };
                 (job, Ok(()))
             }
@@ -81,11 +82,12 @@ impl<C: Catalogue> RunningJob<C> {
             opened,
         } = self;
         match opened {
-            Ok(running) => {
+            Ok(mut kept) => {
+                kept.close();
                 let job = ClosedJob {
                     sheet,
                     catalogue,
-                    opened: Ok(running.close()),
+                    opened: Ok(kept),
                 };
                 (job, Ok(()))
             }

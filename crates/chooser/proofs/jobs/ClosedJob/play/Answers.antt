@@ -5,7 +5,8 @@ use Rattle.rules.specs.Settings.{setting}
 use Rattle.rules.specs.Records.{answer_to, closed_job, job_after}
 use Rattle.chooser.specs.Models.{kept_closed}
 use Rattle.chooser.specs.States.{kept_of, sheet_of, catalogue_of}
-use Rattle.chooser.proofs.Plays.{none_yet, one_more, all_done, lawful}
+use Rattle.chooser.proofs.Plays.{Took, took_alike, none_yet, one_more, all_done, lawful}
+use Rattle.chooser.proofs.jobs.ClosedJob.play.Goals.{in-Some, in-None}
 use Rattle.chooser.proofs.jobs.ClosedJob.play.Goals as goal
 
 pub loop-record-init : goal.loop-record-init
@@ -13,20 +14,31 @@ loop-record-init g c =
     let j = c.args.self in
     record { same_sheet = refl; same_catalogue = refl; underway = none_yet (setting (g.C.Catalogue.meaning j.catalogue) j.sheet) (kept_closed j.opened) c.args.records.now }
 
+-- each record is taken as the rules say, whether the job stays in its state or not
 pub loop-record-preserved : goal.loop-record-preserved
 loop-record-preserved g c =
     let j = c.args.self in
     let l = c.loop-record in
-    let took = c.take-next in
+    let m = c.match-take_in_place in
     let blank : CallRecord = record { request = record { code = 0; row = 0; number = pos 0 }; answer = 0 } in
     let r = slice_index_or l.records l.record-index blank in
-    let here : setting (g.C.Catalogue.meaning (catalogue_of l.job)) (sheet_of l.job) ≡ setting (g.C.Catalogue.meaning j.catalogue) j.sheet = ap₂ (λ x s. setting (g.C.Catalogue.meaning x) s) l.invariant.same_catalogue l.invariant.same_sheet in
+    let meaning = g.C.Catalogue.meaning in
+    let here : setting (meaning (catalogue_of l.job)) (sheet_of l.job) ≡ setting (meaning j.catalogue) j.sheet = ap₂ (λ x s. setting (meaning x) s) l.invariant.same_catalogue l.invariant.same_sheet in
+    let stays = c.take_in_place.ensures in
+    let took : Took meaning l.job m.job r.request m.record =
+    elim m.branch [
+      | in-Some w ↦ rw (w.job-is, w.record-is) (record { sheet = stays.sheet; catalogue = stays.catalogue; answer = w.in-Some.ensures.answer; job = w.in-Some.ensures.job })
+      | in-None w ↦
+          let next = w.turn-next.ensures in
+          rw (w.job-is, w.record-is) (took_alike meaning l.job c.take_in_place.new.self _ r.request _ stays.sheet stays.catalogue (w.in-None.ensures.turns refl).0 (record { sheet = next.sheet; catalogue = next.catalogue; answer = next.answer; job = next.job }))
+    ]
+    in
     record {
-      same_sheet = took.ensures.sheet ∙ l.invariant.same_sheet;
-      same_catalogue = took.ensures.catalogue ∙ l.invariant.same_catalogue;
+      same_sheet = took.sheet ∙ l.invariant.same_sheet;
+      same_catalogue = took.catalogue ∙ l.invariant.same_catalogue;
       underway =
-          one_more (setting (g.C.Catalogue.meaning j.catalogue) j.sheet) (kept_closed j.opened) c.args.records.now l.record-index l.records (kept_of l.job) blank (omega arith) l.invariant.underway took.result.1 (kept_of took.result.0)
-          (took.ensures.answer ∙ ap (λ (S : Setting). answer_to S (kept_of l.job) r.request) here) (took.ensures.job ∙ ap (λ (S : Setting). job_after S (kept_of l.job) r.request) here);
+          one_more (setting (meaning j.catalogue) j.sheet) (kept_closed j.opened) c.args.records.now l.record-index l.records (kept_of l.job) blank (omega arith) l.invariant.underway m.record (kept_of m.job)
+          (took.answer ∙ ap (λ (S : Setting). answer_to S (kept_of l.job) r.request) here) (took.job ∙ ap (λ (S : Setting). job_after S (kept_of l.job) r.request) here);
     }
 
 pub returns : goal.returns

@@ -3,7 +3,6 @@ use Rattle.rules.specs.Calls.{begin_search}
 use Rattle.rules.specs.KeptJobs.{told_on}
 use Rattle.rules.specs.Settings as rules
 use Rattle.search.specs.States.{chosen_from}
-use Rattle.search.specs.States.{chosen_from}
 use Rattle.chooser.specs.Models.{closed_of, kept_closed, searched_of}
 use Rattle.chooser.proofs.Comings.{goes_on, in_closed, in_faulty}
 use Rattle.chooser.proofs.jobs.ClosedJob.search.Goals as goal
@@ -12,8 +11,8 @@ pub invariant_of-job : goal.invariant_of-job
 invariant_of-job g c =
     let j = c.args.self in
     let m = g.C.Catalogue.meaning j.catalogue in
-    let before = c.in-Ok.closed in
-    let after = c.search.result in
+    let before = c.in-Ok.kept in
+    let after = c.search.new.self in
     let kept =
     goes_on m j.sheet begin_search (closed_of before) (searched_of after) (chosen_from before.search) (chosen_from after.search)
     c.search.ensures.grid c.search.ensures.job (in_closed m j.sheet _ before c.in-Ok.is (j.seen, j.came))

@@ -11,8 +11,8 @@ pub invariant_of-job : goal.invariant_of-job
 invariant_of-job g c =
     let j = c.args.self in
     let m = g.C.Catalogue.meaning j.catalogue in
-    let before = c.in-Ok.running in
-    let after = c.close.result in
+    let before = c.in-Ok.kept in
+    let after = c.close.new.self in
     let kept =
     goes_on m j.sheet close (searched_of before) (closed_of after) (chosen_from before.search) (chosen_from after.search)
     c.close.ensures.grid c.close.ensures.job (in_running m j.sheet _ before c.in-Ok.is (j.seen, j.came))

@@ -5,4 +5,4 @@ use Rattle.chooser.proofs.jobs.opens.opened_in.Goals as goal
 
 pub returns-clause-job : goal.returns-clause-job
 returns-clause-job g c =
-    ap faultless (c.opened.ensures.job ∙ ap (λ L. closed L [] None) c.limits_in.ensures) ∙ ap (opened_with c.args.sheet) c.in_ok-checked.ensures.told
+    ap faultless (c.new.ensures.job ∙ ap (λ L. closed L [] None) c.limits_in.ensures) ∙ ap (opened_with c.args.sheet) c.in_ok-checked.ensures.told

@@ -1,21 +1,21 @@
-// The calls on a closed job without fault.
+// The calls on a job without fault.
 ghost use Rattle.std.specs.Prelude.{◌≡◌, [], None};
-ghost use Rattle.rules.specs.Calls.{reply, change, clear, begin_search, closed};
+ghost use Rattle.rules.specs.Calls.{reply, change, clear, begin_search, closed, run as run_call, close as close_call};
+ghost use Rattle.search.specs.Runs.{run_answer};
 ghost use Rattle.search.specs.States.{limits_of, chosen_from};
 ghost use Rattle.chooser.specs.Models.{closed_of, searched_of, taken_or};
 
-use crate::closed::Closed;
-use crate::running::Running;
+use crate::opened::Opened;
 use rules::{GREATEST_LIMIT, MOST_ROWS, Refusal};
-use search::{Grid, Search};
+use search::{Grid, Ran, Search};
 
-impl Closed {
+impl Opened {
     // A job as it is opened.
-    pub(crate) fn opened(grid: Grid, limits: [i64; MOST_ROWS]) -> Closed
+    pub(crate) fn new(grid: Grid, limits: [i64; MOST_ROWS]) -> Opened
         ensures job { closed_of result ≡ closed (limits_of limits) [] None }
         ensures grid { result.search.grid ≡ grid }
     {
-        Closed {
+        Opened {
             search: Search::new(grid, limits),
             verdict: None,
         }
@@ -49,12 +49,30 @@ impl Closed {
     }
 
     // Begins a search.
-    pub(crate) fn search(self) -> Running
-        ensures job { searched_of result ≡ (reply (chosen_from self.search) (closed_of self) begin_search).job }
-        ensures grid { chosen_from result.search ≡ chosen_from self.search }
+    pub(crate) fn search(&mut self)
+        ensures job { searched_of self.new ≡ (reply (chosen_from self.old.search) (closed_of self.old) begin_search).job }
+        ensures grid { chosen_from self.new.search ≡ chosen_from self.old.search }
     {
-        let mut search = self.search;
-        search.begin();
-        Running { search }
+        self.search.begin();
+    }
+
+    // Makes steps within a budget.
+    pub(crate) fn run(&mut self, budget: i32) -> Result<Ran, Refusal>
+        ensures answer { run_answer result ≡ (reply (chosen_from self.old.search) (searched_of self.old) (run_call budget)).answer }
+        ensures job { searched_of self.new ≡ (reply (chosen_from self.old.search) (searched_of self.old) (run_call budget)).job }
+        ensures grid { chosen_from self.new.search ≡ chosen_from self.old.search }
+    {
+        let Ok(budget) = u32::try_from(budget) else {
+            return Err(Refusal::BudgetBeyond);
+        };
+        self.search.run(budget)
+    }
+
+    // Ends the search with a verdict on it.
+    pub(crate) fn close(&mut self)
+        ensures job { closed_of self.new ≡ (reply (chosen_from self.old.search) (searched_of self.old) close_call).job }
+        ensures grid { chosen_from self.new.search ≡ chosen_from self.old.search }
+    {
+        self.verdict = Some(self.search.verdict());
     }
 }

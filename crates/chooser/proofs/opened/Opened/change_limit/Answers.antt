@@ -5,7 +5,7 @@ use Rattle.rules.specs.Calls.{Reply, closed}
 use Rattle.search.specs.States.{chosen_from, limits_of}
 use Rattle.ledger.specs.Model.{held}
 use Rattle.chooser.proofs.Changes.{no_such_row, limit_beyond, limit_changed, limit_set}
-use Rattle.chooser.proofs.closed.Closed.change_limit.Goals as goal
+use Rattle.chooser.proofs.opened.Opened.change_limit.Goals as goal
 
 pub returns-then-from-last_row : goal.returns-then-from-last_row
 returns-then-from-last_row c =

@@ -4,7 +4,7 @@ use Rattle.std.specs.Int.{FitsUnsignedBits}
 use Rattle.rules.specs.Calls.{Reply}
 use Rattle.search.specs.States.{chosen_from, job_limits, state_of}
 use Rattle.chooser.proofs.Budgets.{negative_refused}
-use Rattle.chooser.proofs.running.Running.run.Goals as goal
+use Rattle.chooser.proofs.opened.Opened.run.Goals as goal
 
 pub returns-in_default : goal.returns-in_default
 returns-in_default c =
