@@ -1,14 +1,13 @@
 // What comes next in a search.
 use crate::pick::Pick;
-use ledger::Draft;
 
 // A step of a search; positions go by their index from 0.
 #[derive(Drop)]
 pub(crate) enum Step {
     // A place takes a version, and those below it are open.
     Set(Pick),
-    // A ground is learned at an index, which is open then.
-    Learn(usize, Draft),
+    // The ground that is drafted is learned at an index, which is open then.
+    Learn(usize),
     // The choice becomes the best, at this price.
     Best(i64),
 }

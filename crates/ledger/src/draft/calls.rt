@@ -33,6 +33,13 @@ impl Draft {
         }
     }
 
+    // Drops all lines.
+    pub fn clear(&mut self)
+        ensures { drafted self.new ≡ [] }
+    {
+        self.lines.clear();
+    }
+
     // The lines.
     pub fn lines(&self) -> &[Line]
         ensures { result.now ≡ drafted self.now }

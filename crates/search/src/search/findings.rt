@@ -6,13 +6,15 @@ use crate::closing::Closing;
 use crate::found::{Finding, Verdict};
 use crate::next::Next;
 use crate::search::Search;
+use ledger::Draft;
 
 impl Search {
     // What the search has found.
     fn finding(&self) -> Finding
         ensures { finding_of self.now result ≡ cut_finding (told self.now).finding }
     {
-        match self.next() {
+        let mut draft = Draft::empty();
+        match self.next(&mut draft) {
             Next::Ended(ground) => {
                 let closing = Closing::of(self.ground(ground).lines());
                 match self.best {

@@ -12,6 +12,7 @@ use crate::next::{Next, Step};
 use crate::search::Search;
 use crate::search::place::Place;
 use crate::search::trial::Trial;
+use ledger::Draft;
 
 impl Search {
     // What the choice costs, no place being open.
@@ -39,33 +40,33 @@ impl Search {
     }
 
     // What comes next at a place; with the version that it has no ground below an index stands.
-    fn at_place(&self, index: usize, passed: usize) -> Next
+    fn at_place(&self, index: usize, passed: usize, draft: &mut Draft) -> Next
         requires there { index < self.now.grid.places }
         requires next { self.now.part.opened ≤ index + 1 }
         requires passed { PassedAt self.now index passed }
-        ensures outcome { outcome_of self.now result ≡ go_on (chosen_from self.now) (job_limits self.now) (state_of self.now) (above self.now index) }
-        ensures ready { Ready self.now result }
+        ensures outcome { outcome_of self.now draft.new result ≡ go_on (chosen_from self.now) (job_limits self.now) (state_of self.now) (above self.now index) }
+        ensures ready { Ready self.now draft.new result }
     {
         let place = Place {
             search: self,
             index,
             passed,
         };
-        place.go_on()
+        place.go_on(draft)
     }
 
     // What comes next: with a ground standing, at the lowest place that is set, if one is; else the choice is the best, or the last open
-    // place is to be set.
-    pub(super) fn next(&self) -> Next
-        ensures outcome { outcome_of self.now result ≡ named (chosen_from self.now) (job_limits self.now) (state_of self.now) }
-        ensures ready { Ready self.now result }
+    // place is to be set. A ground to be learned is put in the draft, which is large and so is lent.
+    pub(super) fn next(&self, draft: &mut Draft) -> Next
+        ensures outcome { outcome_of self.now draft.new result ≡ named (chosen_from self.now) (job_limits self.now) (state_of self.now) }
+        ensures ready { Ready self.now draft.new result }
     {
         let opened = self.part.opened();
         match self.standing() {
             Some(ground) if opened == self.grid.places() => Next::Ended(ground),
-            Some(ground) => self.at_place(opened, ground),
+            Some(ground) => self.at_place(opened, ground, draft),
             None if opened == 0 => Next::Makes(Step::Best(self.price())),
-            None => self.at_place(opened - 1, 0),
+            None => self.at_place(opened - 1, 0, draft),
         }
     }
 }

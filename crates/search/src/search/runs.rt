@@ -28,10 +28,10 @@ fn add_ground(ledger: &mut Ledger, draft: &Draft)
 
 impl Search {
     // Makes a step.
-    fn make(&mut self, step: Step)
-        requires ready { ReadyStep self.old step }
+    fn make(&mut self, step: Step, draft: &Draft)
+        requires ready { ReadyStep self.old draft.now step }
         requires few { self.old.steps < most_steps }
-        ensures state { state_of self.new ≡ after self.old step }
+        ensures state { state_of self.new ≡ after self.old draft.now step }
         ensures count { self.new.steps ≡ self.old.steps + 1 }
         ensures kept { SameJob self.new self.old }
     {
@@ -39,8 +39,8 @@ impl Search {
             Step::Set(pick) => {
                 self.set(pick);
             }
-            Step::Learn(index, draft) => {
-                add_ground(&mut self.ledger, &draft);
+            Step::Learn(index) => {
+                add_ground(&mut self.ledger, draft);
                 self.part = self.part.open_to(index + 1);
             }
             Step::Best(price) => {
@@ -58,14 +58,15 @@ impl Search {
         ensures ran { ran_of result (state_of self.new) ≡ run_from (chosen_from self.old) (job_limits self.old) budget (state_of self.old) }
         ensures kept { SameJob self.new self.old }
     {
+        let mut draft = Draft::empty();
         let mut made = 0;
         loop {
-            let why = match self.next() {
+            let why = match self.next(&mut draft) {
                 Next::Ended(_) => Why::HasEnded,
                 Next::Full => Why::IsFull,
                 Next::Makes(_) if made == budget => Why::BudgetUsed,
                 Next::Makes(step) => {
-                    self.make(step);
+                    self.make(step, &draft);
                     made += 1;
                     continue;
                 }

@@ -34,15 +34,14 @@ impl Place<'_> {
         self.put_lines(draft, self.pick(version), ground.lines());
     }
 
-    // The ground that is learned at the place, from the first ground that stands with each version.
-    pub(crate) fn learn(&self, stopped: [usize; VERSIONS]) -> Draft
+    // Drafts the ground that is learned at the place, from the first ground that stands with each version.
+    pub(crate) fn learn(&self, draft: &mut Draft, stopped: [usize; VERSIONS])
         requires { StoodTo self.now.search.now (above_place self.now) (versions_at self.now) stopped }
-        ensures { let s = self.now.search.now in drafted result ≡ ground_at (chosen_from s) (job_limits s) (state_of s) (above_place self.now) }
+        ensures { let s = self.now.search.now in drafted draft.new ≡ ground_at (chosen_from s) (job_limits s) (state_of s) (above_place self.now) }
     {
-        let mut draft = Draft::empty();
+        draft.clear();
         for version in 1..=self.search.grid.versions(self.index) {
-            self.put_version(&mut draft, version, stopped[usize::from(version) - 1]);
+            self.put_version(draft, version, stopped[usize::from(version) - 1]);
         }
-        draft
     }
 }

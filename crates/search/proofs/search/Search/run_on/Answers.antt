@@ -14,5 +14,5 @@ loop-step-preserved c =
       within = omega arith;
       few = omega (arith, made.count, inv.few);
       kept = (made.kept.0 ∙ inv.kept.0, made.kept.1 ∙ inv.kept.1);
-      ran = run_more c.args.self.now s c.args.budget c.loop-step.made inv.kept inv.ran (state_of c.make.new.self) (ap stepped made.state ∙ c.in-Makes.ensures.outcome) low;
+      ran = run_more c.args.self.now s c.args.budget c.loop-step.made inv.kept inv.ran (state_of c.make.new.self) (ap stepped made.state ∙ c.in-Makes-2.ensures.outcome) low;
     }
