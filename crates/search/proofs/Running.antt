@@ -1,5 +1,5 @@
 -- One step more of a run. Assumes nothing.
-use Rattle.std.proofs.Common.{◌≡◌, ℕ, suc, ◌+◌, ◌-◌, ◌<◌, ◌≤◌, leb, List, replicate, ℤ, pos, None, Option, sym, ap, ◌∙◌, arith}
+use Rattle.std.proofs.Common.{◌≡◌, ℕ, suc, ◌+◌, ◌-◌, ◌<◌, ◌≤◌, leb, List, replicate, ℤ, pos, Option, sym, ap, ◌∙◌, arith}
 use Rattle.std.proofs.lemmas.Bool.{le-leb, lt-leb, cond-true, cond-false}
 use Rattle.rules.specs.declared.refusals.Refusal.TheVariants.{BudgetBeyond}
 use Rattle.rules.specs.Bounds.{most_steps}
@@ -9,7 +9,7 @@ use Rattle.rules.specs.Search.{State, Outcome, ended, full, stepped, start, next
 use Rattle.rules.specs.Calls.{has_ended, is_full, Ran, one_more, run_from, run, running, refused, replied, run_reply, reply}
 use Rattle.ledger.specs.Model.{held}
 use Rattle.search.specs.declared.grid.Grid.{Grid}
-use Rattle.search.specs.States.{chosen_from, job_limits, best_in, part_in, state_of, SameJob, SameBut}
+use Rattle.search.specs.States.{chosen_from, job_limits, best_in, part_in, state_of, AtRest, SameJob, SameBut}
 use Rattle.search.specs.Runs.{after_steps}
 use Rattle.search.specs.declared.search.Search.{Search}
 use Rattle.search.proofs.NextSteps.{next_kept}
@@ -36,13 +36,13 @@ module _ (S : Setting) (L : Limits) (σ : State) where
 same_state : {p q : Part} {b c : Option Part} {x y : ℤ} {i j : ℕ} {g h : List Ground} → p ≡ q → b ≡ c → x ≡ y → i ≡ j → g ≡ h → ◌≡◌ {A = State} (record { part = p; best = b; cap = x; steps = i; learned = g }) (record { part = q; best = c; cap = y; steps = j; learned = h })
 same_state p b x i g = cc
 
-pub begun : (s t : Search) → SameBut s t → (t.best ≡ None) × (t.cap ≡ job_limits t 0) × (t.steps ≡ 0) → part_in s s.part ≡ replicate s.grid.places 1 → state_of s ≡ start (chosen_from t) (job_limits t) (held t.ledger)
-begun s t same fresh ones =
+pub begun : (s t : Search) → SameBut s t → AtRest t → t.cap ≡ job_limits t 0 → part_in s s.part ≡ replicate s.grid.places 1 → state_of s ≡ start (chosen_from t) (job_limits t) (held t.ledger)
+begun s t same rest cap ones =
     same_state
     (ones ∙ ap (λ (g : Grid). replicate g.places 1) same.0.0)
-    (ap (best_in s) (same.2 ∙ fresh.0))
-    (same.3 ∙ fresh.1)
-    (same.4 ∙ fresh.2)
+    (ap (best_in s) (same.2 ∙ rest.2))
+    (same.3 ∙ cap)
+    (same.4 ∙ rest.3)
     (ap held same.1)
 
 -- a search that began as s₀ and is s after k steps of a run

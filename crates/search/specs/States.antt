@@ -1,7 +1,8 @@
 -- A search of the rules in its tables. Assumes nothing.
-use Rattle.std.specs.Prelude.{◌≡◌, ℕ, suc, ◌+◌, if◌then◌else◌, List, [], ◌∷◌, ℤ, pos, Option, ◌==◌, slice_index_or}
+use Rattle.std.specs.Prelude.{◌≡◌, ℕ, suc, replicate, None, ◌+◌, if◌then◌else◌, List, [], ◌∷◌, ℤ, pos, Option, ◌==◌, slice_index_or}
 use Rattle.std.specs.Option.{option_map}
 use Rattle.rules.specs.declared.lines.Line.{Line}
+use Rattle.rules.specs.Bounds.{most_places}
 use Rattle.rules.specs.Sheets.{Limits}
 use Rattle.rules.specs.Choices.{capped}
 use Rattle.rules.specs.Grounds.{Setting, Part, Ground, with_amount, ledger, first_standing, ground_in}
@@ -76,6 +77,14 @@ pick_of s t v = ground_in (first_standing (chosen_from s) (force s) (grounds s) 
 abbrev pub SameJob : Search → Search → Type 0
 SameJob s t = (s.grid ≡ t.grid) × (s.limits ≡ t.limits)
 
--- And more: but for the part-choice, they are the same.
+-- Two searches have come equally far.
+abbrev pub SameCourse : Search → Search → Type 0
+SameCourse s t = (s.part ≡ t.part) × (s.best ≡ t.best) × (s.cap ≡ t.cap) × (s.steps ≡ t.steps)
+
+-- A search has not begun: all places are open, version 1 stands everywhere, and nothing is found.
+abbrev pub AtRest : Search → Type 0
+AtRest s = (s.part.versions ≡ replicate most_places 1) × (s.part.opened ≡ s.grid.places) × (s.best ≡ None) × (s.steps ≡ 0)
+
+-- But for the part-choice, two searches are the same.
 abbrev pub SameBut : Search → Search → Type 0
 SameBut s t = SameJob s t × (s.ledger ≡ t.ledger) × (s.best ≡ t.best) × (s.cap ≡ t.cap) × (s.steps ≡ t.steps)

@@ -1,9 +1,9 @@
 // A search at rest: what is chosen from, the limits of the job, and the learned grounds. All of it stays in its place when a search begins.
-ghost use Rattle.std.specs.Prelude.{◌≡◌, ◌≤◌, [], None, replicate, slice_set};
-ghost use Rattle.rules.specs.Bounds.{most_places, greatest_row};
+ghost use Rattle.std.specs.Prelude.{◌≡◌, ◌≤◌, [], pos, slice_set};
+ghost use Rattle.rules.specs.Bounds.{greatest_row};
 ghost use Rattle.rules.specs.Search.{start as started};
 ghost use Rattle.ledger.specs.Model.{held};
-ghost use Rattle.search.specs.States.{chosen_from, job_limits, state_of, SameJob};
+ghost use Rattle.search.specs.States.{chosen_from, job_limits, state_of, AtRest, SameJob, SameCourse};
 
 use crate::grid::Grid;
 use crate::part::Part;
@@ -20,6 +20,7 @@ impl Search {
         ensures grid { result.grid ≡ grid }
         ensures limits { result.limits ≡ limits }
         ensures ledger { held result.ledger ≡ [] }
+        ensures rest { AtRest result × (result.cap ≡ pos 0) }
     {
         let opened = grid.places();
         let units = units_in(&grid);
@@ -55,6 +56,7 @@ impl Search {
         ensures limits { self.new.limits ≡ slice_set self.old.limits row limit }
         ensures grid { self.new.grid ≡ self.old.grid }
         ensures ledger { self.new.ledger ≡ self.old.ledger }
+        ensures course { SameCourse self.new self.old }
     {
         let row = usize::from(row);
         if row < MOST_ROWS {
@@ -66,17 +68,17 @@ impl Search {
     pub fn clear(&mut self)
         ensures ledger { held self.new.ledger ≡ [] }
         ensures kept { SameJob self.new self.old }
+        ensures course { SameCourse self.new self.old }
     {
         self.ledger.clear();
     }
 
     // Opens all places, and forgets what an earlier search found.
     fn open_all(&mut self)
-        ensures versions { self.new.part.versions ≡ replicate most_places 1 }
-        ensures opened { self.new.part.opened ≡ self.old.grid.places }
+        ensures rest { AtRest self.new }
+        ensures cap { self.new.cap ≡ job_limits self.new 0 }
         ensures kept { SameJob self.new self.old }
         ensures ledger { self.new.ledger ≡ self.old.ledger }
-        ensures fresh { (self.new.best ≡ None) × (self.new.cap ≡ job_limits self.new 0) × (self.new.steps ≡ 0) }
     {
         let places = self.grid.places();
         self.sums[places] = units_in(&self.grid);

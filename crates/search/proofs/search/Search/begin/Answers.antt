@@ -29,6 +29,6 @@ returns-clause-state c =
     let ones = ones_set s s.part inv.versions none in
     let a = c.open_all.ensures in
     let t = c.open_all.new.self in
-    begun s t inv.kept a.fresh ones
+    begun s t inv.kept a.rest a.cap ones
     ∙ ap₂ (λ g l. start (setting g) (limits_of l) (held t.ledger)) a.kept.0 a.kept.1
     ∙ ap (λ l. start (setting c.args.self.now.grid) (limits_of c.args.self.now.limits) (held l)) a.ledger
