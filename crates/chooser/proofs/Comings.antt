@@ -1,5 +1,5 @@
 -- What a job keeps over a call: its setting, and that it has come about by calls. Assumes nothing.
-use Rattle.std.proofs.Common.{◌≡◌, List, [], Ok, Err, Result, sym, ap, ◌∙◌, subst}
+use Rattle.std.proofs.Common.{◌≡◌, Bool, List, [], Ok, Err, Result, sym, ap, ◌∙◌, subst}
 use Rattle.std.proofs.Math.Logic.{∥∥₁_map}
 use Rattle.rules.specs.declared.refusals.Fault.{Fault}
 use Rattle.rules.specs.declared.sheets.Sheet.{Sheet}
@@ -12,7 +12,8 @@ use Rattle.rules.specs.Settings.{setting}
 use Rattle.rules.specs.KeptJobs.{CameBy, KeptJob, faultless, faulty, job_by, opened_with}
 use Rattle.rules.proofs.Comings.{came_on}
 use Rattle.rules.proofs.Works.{record_law}
-use Rattle.chooser.specs.Models.{closed_of, kept_closed, kept_running, searched_of, setting_closed, setting_running}
+use Rattle.chooser.specs.Models.{job_of, kept, setting_in}
+use Rattle.search.specs.States.{chosen_from}
 use Rattle.chooser.specs.declared.opened.Opened.{Opened}
 
 -- a job as it is opened has come about by no call
@@ -37,16 +38,9 @@ module _ (m : Meaning) (s : Sheet) where
   goes_on c j k now later same done h =
       (same ∙ h.0, came_after c (faultless j) (faultless k) (ap faultless (done ∙ ap (λ S. (reply S j c).job) h.0)) h.1)
 
-  -- what a closed job keeps, without a fault and with one
-  pub in_closed : (o : Result Opened Fault) (c : Opened) → o ≡ Ok c → Sound (setting_closed (setting m s) o) (kept_closed o) → Sound (setting_closed (setting m s) (Ok c)) (faultless (closed_of c))
-  in_closed o c e h = subst (λ o. Sound (setting_closed (setting m s) o) (kept_closed o)) e h
+  -- what a job keeps, without a fault and with one
+  pub in_opened : (running : Bool) (o : Result Opened Fault) (x : Opened) → o ≡ Ok x → Sound (setting_in (setting m s) o) (kept running o) → Sound (chosen_from x.search) (faultless (job_of running x))
+  in_opened running o x e h = subst (λ o. Sound (setting_in (setting m s) o) (kept running o)) e h
 
-  pub in_faulty : (o : Result Opened Fault) (f : Fault) → o ≡ Err f → Came (kept_closed o) → Came (faulty f)
-  in_faulty o f e h = subst (λ o. Came (kept_closed o)) e h
-
-  -- the same of a running one
-  pub in_running : (o : Result Opened Fault) (r : Opened) → o ≡ Ok r → Sound (setting_running (setting m s) o) (kept_running o) → Sound (setting_running (setting m s) (Ok r)) (faultless (searched_of r))
-  in_running o r e h = subst (λ o. Sound (setting_running (setting m s) o) (kept_running o)) e h
-
-  pub in_faulty_running : (o : Result Opened Fault) (f : Fault) → o ≡ Err f → Came (kept_running o) → Came (faulty f)
-  in_faulty_running o f e h = subst (λ o. Came (kept_running o)) e h
+  pub in_faulty : (running : Bool) (o : Result Opened Fault) (f : Fault) → o ≡ Err f → Came (kept running o) → Came (faulty f)
+  in_faulty running o f e h = subst (λ o. Came (kept running o)) e h

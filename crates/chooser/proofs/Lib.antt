@@ -1,7 +1,6 @@
 pub mod Changes
 pub mod Budgets
 pub mod Comings
-pub mod NotNow
 pub mod SheetLimits
 pub mod FirstPlaces
 pub mod Prices

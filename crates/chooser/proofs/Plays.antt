@@ -3,7 +3,6 @@ use Rattle.std.proofs.Common.{◌≡◌, ℕ, suc, ◌+◌, ◌<◌, ◌≤◌, 
 use Rattle.std.proofs.Math.Seq.{drop-cons}
 use Rattle.std.proofs.lemmas.List.{take_more_set, drop-set-lt, drop_all, take_all}
 use Rattle.rules.specs.declared.records.CallRecord.{CallRecord}
-use Rattle.rules.specs.declared.records.Request.{Request}
 use Rattle.rules.specs.Grounds.{Setting}
 use Rattle.rules.specs.declared.sheets.Sheet.{Sheet}
 use Rattle.rules.specs.Catalogues.{Meaning, SoundMeaning}
@@ -13,8 +12,6 @@ use Rattle.rules.specs.Settings.{setting}
 use Rattle.rules.specs.KeptJobs.{CameBy, KeptJob, opened_with}
 use Rattle.rules.specs.Records.{Lawful, all_answered, answer_to, answered, closed_job, job_after, job_after_all}
 use Rattle.rules.proofs.Works.{record_law}
-use Rattle.chooser.specs.States.{kept_of, sheet_of, catalogue_of}
-use Rattle.chooser.specs.declared.driver.Job.{Job}
 
 module _ (S : Setting) (first : KeptJob) (asked : List CallRecord) where
   -- so many records are answered, and on the job that has come about the others come to the same as on the first
@@ -57,22 +54,3 @@ lawful_opened m n s t k rs after w same_meaning same_sheet opening_is lawful =
     let opens : CameBy m s [] k = subst (CameBy m s []) (sym opening_is) (record_law m w s).opens in
     let came : CameBy n t [] k = subst (λ x. CameBy x t [] k) (sym same_meaning) (subst (λ y. CameBy m y [] k) (sym same_sheet) opens) in
     subst (λ x. Lawful x s [] rs after) same_meaning (subst (λ y. Lawful n y [] rs after) same_sheet (lawful [] came))
-
--- What the taking of a request comes to, on a job over a catalogue of some meaning.
-module _ {D : Type 0} {g : _} (meaning : D → Meaning) where
-  pub record Took (before after : Job D g) (r : Request) (n : ℕ) : Type 0 where
-    pub sheet : sheet_of after ≡ sheet_of before
-    pub catalogue : catalogue_of after ≡ catalogue_of before
-    pub answer : n ≡ answer_to (setting (meaning (catalogue_of before)) (sheet_of before)) (kept_of before) r
-    pub job : kept_of after ≡ job_after (setting (meaning (catalogue_of before)) (sheet_of before)) (kept_of before) r
-
-  -- the same on a job that is kept alike
-  pub took_alike : (before alike after : Job D g) (r : Request) (n : ℕ) → sheet_of alike ≡ sheet_of before → catalogue_of alike ≡ catalogue_of before → kept_of alike ≡ kept_of before → Took alike after r n → Took before after r n
-  took_alike before alike after r n sheet catalogue kept t =
-      let here : setting (meaning (catalogue_of alike)) (sheet_of alike) ≡ setting (meaning (catalogue_of before)) (sheet_of before) = ap₂ (λ x s. setting (meaning x) s) catalogue sheet in
-      record {
-        sheet = t.sheet ∙ sheet;
-        catalogue = t.catalogue ∙ catalogue;
-        answer = t.answer ∙ ap₂ (λ S k. answer_to S k r) here kept;
-        job = t.job ∙ ap₂ (λ S k. job_after S k r) here kept;
-      }

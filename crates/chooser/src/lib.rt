@@ -1,15 +1,17 @@
 // Jobs: their opening, the calls on them, and lists of call records.
 #![tactic(auto)]
 
-mod driver;
-mod jobs;
+mod closed;
+mod job;
 mod opened;
 mod requests;
+mod running;
 mod verdicts;
 mod whole;
 
-pub use driver::Job;
-pub use jobs::{ClosedJob, RunningJob};
+pub use closed::ClosedJob;
+pub use job::Job;
+pub use running::RunningJob;
 pub use verdicts::{Choice, ClosingGround, Seen, Told};
 pub use whole::choose;
 

@@ -1,7 +1,7 @@
 // What a record asks for.
 ghost use Rattle.std.specs.Prelude.{◌≡◌};
 ghost use Rattle.rules.specs.Records.{asked};
-ghost use Rattle.chooser.specs.Requests.{call_asked};
+ghost use Rattle.chooser.specs.Requests.{call_asked, turned};
 
 use rules::Request;
 
@@ -28,5 +28,18 @@ pub(crate) fn asked_for(request: Request) -> Option<Call>
         (4, 0, _) => Some(Call::Run(number)),
         (5, 0, 0) => Some(Call::Close),
         _ => None,
+    }
+}
+
+impl Call {
+    // Whether a search is running after the call, whatever it is answered: a search begins one, a close ends it.
+    pub(crate) fn turned(self, running: bool) -> bool
+        ensures { result ≡ turned running self }
+    {
+        match self {
+            Call::Search => true,
+            Call::Close => false,
+            Call::Change(..) | Call::Clear | Call::Run(_) => running,
+        }
     }
 }

@@ -1,9 +1,9 @@
 // The whole way: a sheet and a catalogue, a list of call records, and the job that they lead to.
 ghost use Rattle.std.specs.Prelude.{◌≡◌, []};
 ghost use Rattle.rules.specs.Records.{work_records, work_job, Lawful};
-ghost use Rattle.chooser.specs.Models.{kept_closed};
+ghost use Rattle.chooser.specs.States.{kept_of};
 
-use crate::jobs::ClosedJob;
+use crate::closed::ClosedJob;
 use catalogue::Catalogue;
 use rules::{CallRecord, Sheet};
 
@@ -11,10 +11,10 @@ use rules::{CallRecord, Sheet};
 // all that the rules promise: `Lawful`.
 pub fn choose<C: Catalogue>(sheet: Sheet, catalogue: C, records: &mut [CallRecord]) -> ClosedJob<C>
     ensures records { records.new ≡ work_records (C.Catalogue.meaning catalogue) sheet records.old }
-    ensures job { kept_closed result.opened ≡ work_job (C.Catalogue.meaning catalogue) sheet records.old }
-    ensures sheet { result.sheet ≡ sheet }
-    ensures catalogue { result.catalogue ≡ catalogue }
-    ensures lawful { Lawful (C.Catalogue.meaning catalogue) sheet [] records.new (kept_closed result.opened) }
+    ensures job { kept_of result.job ≡ work_job (C.Catalogue.meaning catalogue) sheet records.old }
+    ensures sheet { result.job.sheet ≡ sheet }
+    ensures catalogue { result.job.catalogue ≡ catalogue }
+    ensures lawful { Lawful (C.Catalogue.meaning catalogue) sheet [] records.new (kept_of result.job) }
 {
     ClosedJob::open(sheet, catalogue).play(records)
 }

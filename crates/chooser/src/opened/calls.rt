@@ -3,9 +3,11 @@ ghost use Rattle.std.specs.Prelude.{◌≡◌, [], None};
 ghost use Rattle.rules.specs.Calls.{reply, change, clear, begin_search, closed, run as run_call, close as close_call};
 ghost use Rattle.search.specs.Runs.{run_answer};
 ghost use Rattle.search.specs.States.{limits_of, chosen_from};
-ghost use Rattle.chooser.specs.Models.{closed_of, searched_of, taken_or};
+ghost use Rattle.chooser.specs.Models.{closed_of, searched_of, job_of, taken_or, made_answer};
+ghost use Rattle.chooser.specs.Requests.{call_of, turned};
 
-use crate::opened::Opened;
+use crate::opened::{Made, Opened};
+use crate::requests::Call;
 use rules::{GREATEST_LIMIT, MOST_ROWS, Refusal};
 use search::{Grid, Ran, Search};
 
@@ -22,7 +24,7 @@ impl Opened {
     }
 
     // Replaces the limit of a row.
-    pub(crate) fn change_limit(&mut self, row: u8, limit: i32) -> Result<(), Refusal>
+    fn change_limit(&mut self, row: u8, limit: i32) -> Result<(), Refusal>
         ensures answer { taken_or result ≡ (reply (chosen_from self.old.search) (closed_of self.old) (change row limit)).answer }
         ensures job { closed_of self.new ≡ (reply (chosen_from self.old.search) (closed_of self.old) (change row limit)).job }
         ensures grid { self.new.search.grid ≡ self.old.search.grid }
@@ -40,7 +42,7 @@ impl Opened {
 
     // Drops all learned grounds.
     #[tactic(auto, unfolding(rules::specs::Calls::reply))]
-    pub(crate) fn clear(&mut self)
+    fn clear(&mut self)
         ensures job { closed_of self.new ≡ (reply (chosen_from self.old.search) (closed_of self.old) clear).job }
         ensures grid { self.new.search.grid ≡ self.old.search.grid }
     {
@@ -49,7 +51,7 @@ impl Opened {
     }
 
     // Begins a search.
-    pub(crate) fn search(&mut self)
+    fn search(&mut self)
         ensures job { searched_of self.new ≡ (reply (chosen_from self.old.search) (closed_of self.old) begin_search).job }
         ensures grid { chosen_from self.new.search ≡ chosen_from self.old.search }
     {
@@ -57,7 +59,7 @@ impl Opened {
     }
 
     // Makes steps within a budget.
-    pub(crate) fn run(&mut self, budget: i32) -> Result<Ran, Refusal>
+    fn run(&mut self, budget: i32) -> Result<Ran, Refusal>
         ensures answer { run_answer result ≡ (reply (chosen_from self.old.search) (searched_of self.old) (run_call budget)).answer }
         ensures job { searched_of self.new ≡ (reply (chosen_from self.old.search) (searched_of self.old) (run_call budget)).job }
         ensures grid { chosen_from self.new.search ≡ chosen_from self.old.search }
@@ -69,10 +71,38 @@ impl Opened {
     }
 
     // Ends the search with a verdict on it.
-    pub(crate) fn close(&mut self)
+    fn close(&mut self)
         ensures job { closed_of self.new ≡ (reply (chosen_from self.old.search) (searched_of self.old) close_call).job }
         ensures grid { chosen_from self.new.search ≡ chosen_from self.old.search }
     {
         self.verdict = Some(self.search.verdict());
+    }
+
+    // Makes a call, if the state allows it: a search is running, or the job is closed.
+    pub(crate) fn make(&mut self, running: bool, call: Call) -> Result<Made, Refusal>
+        ensures answer { made_answer result ≡ (reply (chosen_from self.old.search) (job_of running self.old) (call_of call)).answer }
+        ensures job { job_of (turned running call) self.new ≡ (reply (chosen_from self.old.search) (job_of running self.old) (call_of call)).job }
+        ensures grid { chosen_from self.new.search ≡ chosen_from self.old.search }
+    {
+        match (call, running) {
+            (Call::Change(row, limit), false) => {
+                self.change_limit(row, limit)?;
+                Ok(Made::Done)
+            }
+            (Call::Clear, false) => {
+                self.clear();
+                Ok(Made::Done)
+            }
+            (Call::Search, false) => {
+                self.search();
+                Ok(Made::Done)
+            }
+            (Call::Run(budget), true) => Ok(Made::Ran(self.run(budget)?)),
+            (Call::Close, true) => {
+                self.close();
+                Ok(Made::Done)
+            }
+            _ => Err(Refusal::NotInThisState),
+        }
     }
 }
