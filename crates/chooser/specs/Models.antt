@@ -1,5 +1,5 @@
 -- Jobs in memory as jobs of the rules. Assumes nothing.
-use Rattle.std.specs.Prelude.{ℕ, Bool, true, false, Some, None, Option, Ok, Err, Result}
+use Rattle.std.specs.Prelude.{ℕ, Bool, true, false, Some, None, Ok, Err, Result}
 use Rattle.std.specs.Option.{option_map}
 use Rattle.rules.specs.declared.refusals.Fault.{Fault}
 use Rattle.rules.specs.declared.refusals.Refusal.{Refusal}

@@ -79,6 +79,7 @@ impl Opened {
     }
 
     // Makes a call, if the state allows it: a search is running, or the job is closed.
+    #[tactic(auto, unfolding(rules::specs::Calls::reply))]
     pub(crate) fn make(&mut self, running: bool, call: Call) -> Result<Made, Refusal>
         ensures answer { made_answer result ≡ (reply (chosen_from self.old.search) (job_of running self.old) (call_of call)).answer }
         ensures job { job_of (turned running call) self.new ≡ (reply (chosen_from self.old.search) (job_of running self.old) (call_of call)).job }

@@ -62,22 +62,20 @@ fn every_record_has_its_number(rt: HostRuntime) -> Result<(), Fail> {
 }
 
 // A call of a record that is answered with the fault; whether the job is running then.
-fn runs_after(rt: &impl Abort, job: Job<Ladder>, code: u8) -> (Job<Ladder>, bool) {
+fn runs_after(rt: &impl Abort, job: &mut Job<Ladder>, code: u8) -> bool {
     let request = Request {
         code,
         row: 0,
         number: 0,
     };
-    let (job, answer) = job.take(request);
-    assert_eq!(rt; answer, FAULT.number);
+    assert_eq!(rt; job.take(request), FAULT.number);
     assert_eq!(rt; job.fault(), Some(FAULT));
-    let running = matches!(&job, Job::Running(_));
-    (job, running)
+    job.is_running()
 }
 
 #[test]
 fn search_and_close_change_the_state(rt: HostRuntime) -> Result<(), Fail> {
-    let mut job = Job::Closed(ClosedJob::open(worked_sheet(), faulty_ladder()?));
+    let mut job = ClosedJob::open(worked_sheet(), faulty_ladder()?).into_job();
     let steps = [
         (4, false),
         (5, false),
@@ -90,9 +88,7 @@ fn search_and_close_change_the_state(rt: HostRuntime) -> Result<(), Fail> {
         (3, true),
     ];
     for (code, expected) in steps.iter() {
-        let (next, running) = runs_after(&rt, job, *code);
-        assert_eq!(rt; running, *expected);
-        job = next;
+        assert_eq!(rt; runs_after(&rt, &mut job, *code), *expected);
     }
     assert_eq!(rt; job.closed().fault(), Some(FAULT));
     Ok(())

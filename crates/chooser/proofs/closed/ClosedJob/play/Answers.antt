@@ -16,7 +16,7 @@ pub loop-record-preserved : goal.loop-record-preserved
 loop-record-preserved g c =
     let j = c.args.self.job in
     let l = c.loop-record in
-    let took = c.take.ensures in
+    let took = c.take-record.ensures in
     let blank : CallRecord = record { request = record { code = 0; row = 0; number = pos 0 }; answer = 0 } in
     let r = slice_index_or l.records l.record-index blank in
     let here : setting (g.C.Catalogue.meaning l.job.catalogue) l.job.sheet ≡ setting (g.C.Catalogue.meaning j.catalogue) j.sheet = ap₂ (λ x s. setting (g.C.Catalogue.meaning x) s) l.invariant.same_catalogue l.invariant.same_sheet in
@@ -24,7 +24,7 @@ loop-record-preserved g c =
       same_sheet = took.sheet ∙ l.invariant.same_sheet;
       same_catalogue = took.catalogue ∙ l.invariant.same_catalogue;
       underway =
-          one_more (setting (g.C.Catalogue.meaning j.catalogue) j.sheet) (kept_of j) c.args.records.now l.record-index l.records (kept_of l.job) blank (omega arith) l.invariant.underway c.take.result (kept_of c.take.new.self)
+          one_more (setting (g.C.Catalogue.meaning j.catalogue) j.sheet) (kept_of j) c.args.records.now l.record-index l.records (kept_of l.job) blank (omega arith) l.invariant.underway c.take-record.result (kept_of c.take-record.new.self)
           (took.answer ∙ ap (λ (S : Setting). answer_to S (kept_of l.job) r.request) here) (took.job ∙ ap (λ (S : Setting). job_after S (kept_of l.job) r.request) here);
     }
 

@@ -1,4 +1,4 @@
-use Rattle.std.proofs.Common.{refl, ap, sym}
+use Rattle.std.proofs.Common.{refl}
 use Rattle.chooser.specs.Requests.{call_of, turned}
 use Rattle.search.specs.States.{chosen_from}
 use Rattle.chooser.specs.Models.{job_of}
@@ -15,7 +15,7 @@ invariant_of-self g c =
     goes_on m j.sheet (call_of c.args.call) (job_of j.running before) (job_of (turned j.running c.args.call) after) (chosen_from before.search) (chosen_from after.search)
     c.make.ensures.grid c.make.ensures.job (in_opened m j.sheet j.running _ before c.in-Ok.is (j.seen, j.came))
     in
-    record { seen = kept.0; came = kept.1 }
+    record { seen = kept.0; came = rw c.turned-self.ensures kept.1 }
 
 pub invariant_of-self-in-Err : goal.invariant_of-self-in-Err
 invariant_of-self-in-Err g c =
