@@ -2,7 +2,7 @@
 ghost use Rattle.std.specs.Prelude.{◌≡◌, ◌++◌, MatchResult};
 ghost use Rattle.rules.specs.Settings.{setting};
 ghost use Rattle.rules.specs.Records.{all_answered};
-ghost use Rattle.chooser.specs.Models.{kept_closed};
+ghost use Rattle.chooser.specs.States.{kept_of};
 ghost use Rattle.report.specs.Reports.{calls_text, job_line};
 ghost use Rattle.report.specs.Pages.{fitting};
 ghost use Rattle.report.specs.Answers.{Reported, Unaltered, report_answer};
@@ -18,15 +18,15 @@ pub const MOST_REPORTED: usize = 256;
 // Carries out call records on a job, and writes their lines behind the first line.
 fn page_of<C: Catalogue + Drop>(
     sheet: &Sheet,
-    job: ClosedJob<C>,
+    job: Job<C>,
     records: &mut [CallRecord],
 ) -> Page
-    ensures records { records.new ≡ all_answered (setting (C.Catalogue.meaning job.catalogue) job.sheet) (kept_closed job.opened) records.old }
-    ensures text { result.bytes.items ≡ fitting (job_line sheet.now ++ calls_text (C.Catalogue.meaning job.catalogue) job.sheet (kept_closed job.opened) 1 records.old) }
+    ensures records { records.new ≡ all_answered (setting (C.Catalogue.meaning job.catalogue) job.sheet) (kept_of job) records.old }
+    ensures text { result.bytes.items ≡ fitting (job_line sheet.now ++ calls_text (C.Catalogue.meaning job.catalogue) job.sheet (kept_of job) 1 records.old) }
 {
     let mut page = Page::blank();
     page.put_job(sheet);
-    page.put_calls(Job::Closed(job), records);
+    page.put_calls(job, records);
     page
 }
 
@@ -51,7 +51,7 @@ pub fn report<C: Catalogue + Drop>(
     if records.len() > MOST_REPORTED {
         return Err(Fault::from(Refusal::NoCall));
     }
-    let page = page_of(&sheet, job, records);
+    let page = page_of(&sheet, job.into_job(), records);
     let text = page.text();
     out[..text.len()].copy_from_slice(text);
     Ok(text.len())
