@@ -24,4 +24,7 @@ pub struct Job<C: Catalogue> {
 mod makes;
 mod opens;
 mod questions;
+mod states;
 mod takes;
+
+pub use states::State;

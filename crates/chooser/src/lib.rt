@@ -10,7 +10,7 @@ mod verdicts;
 mod whole;
 
 pub use closed::ClosedJob;
-pub use job::Job;
+pub use job::{Job, State};
 pub use running::RunningJob;
 pub use verdicts::{Choice, ClosingGround, Seen, Told};
 pub use whole::choose;

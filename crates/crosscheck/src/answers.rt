@@ -1,7 +1,7 @@
 // How calls are made on a job: by its own calls, or by records.
 use crate::calls::Call;
 use catalogue::Catalogue;
-use chooser::{ClosedJob, Job, RunningJob};
+use chooser::{ClosedJob, RunningJob, State};
 use rules::Fault;
 use search::Ran;
 
@@ -36,54 +36,58 @@ fn run_answer(told: Result<Ran, Fault>) -> Answer {
 }
 
 // Makes a call by a record.
-pub(crate) fn by_record<C: Catalogue>(job: Job<C>, call: Call) -> (Job<C>, Answer) {
-    let (job, number) = job.take(call.request());
+pub(crate) fn by_record<C: Catalogue>(job: State<C>, call: Call) -> (State<C>, Answer) {
+    let mut job = match job {
+        State::Closed(job) => job.into_job(),
+        State::Running(job) => job.into_job(),
+    };
+    let number = job.take(call.request());
     let answer = Answer {
         number,
         fault: None,
         ran: None,
     };
-    (job, answer)
+    (job.state(), answer)
 }
 
-fn on_closed<C: Catalogue>(mut job: ClosedJob<C>, call: Call) -> (Job<C>, Answer) {
+fn on_closed<C: Catalogue>(mut job: ClosedJob<C>, call: Call) -> (State<C>, Answer) {
     match call {
         Call::Change(row, limit) => {
             let answer = answer_of(job.change_limit(row, limit));
-            (Job::Closed(job), answer)
+            (State::Closed(job), answer)
         }
         Call::Clear => {
             let answer = answer_of(job.clear());
-            (Job::Closed(job), answer)
+            (State::Closed(job), answer)
         }
         Call::Search => {
             let (job, told) = job.search();
-            (Job::Running(job), answer_of(told))
+            (State::Running(job), answer_of(told))
         }
-        Call::Run(_) | Call::Close | Call::Nothing(_) => by_record(Job::Closed(job), call),
+        Call::Run(_) | Call::Close | Call::Nothing(_) => by_record(State::Closed(job), call),
     }
 }
 
-fn on_running<C: Catalogue>(mut job: RunningJob<C>, call: Call) -> (Job<C>, Answer) {
+fn on_running<C: Catalogue>(mut job: RunningJob<C>, call: Call) -> (State<C>, Answer) {
     match call {
         Call::Run(budget) => {
             let answer = run_answer(job.run(budget));
-            (Job::Running(job), answer)
+            (State::Running(job), answer)
         }
         Call::Close => {
             let (job, told) = job.close();
-            (Job::Closed(job), answer_of(told))
+            (State::Closed(job), answer_of(told))
         }
         Call::Change(..) | Call::Clear | Call::Search | Call::Nothing(_) => {
-            by_record(Job::Running(job), call)
+            by_record(State::Running(job), call)
         }
     }
 }
 
 // Makes a call by the job's own, or by a record where its state has no such call.
-pub(crate) fn by_call<C: Catalogue>(job: Job<C>, call: Call) -> (Job<C>, Answer) {
+pub(crate) fn by_call<C: Catalogue>(job: State<C>, call: Call) -> (State<C>, Answer) {
     match job {
-        Job::Closed(job) => on_closed(job, call),
-        Job::Running(job) => on_running(job, call),
+        State::Closed(job) => on_closed(job, call),
+        State::Running(job) => on_running(job, call),
     }
 }

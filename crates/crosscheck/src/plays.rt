@@ -11,7 +11,7 @@ use crate::models::{Model, plain_fault};
 use crate::said::Said;
 use crate::states::{check_closed, check_state, said_by};
 use anyhow::{Context, Result, bail, ensure};
-use chooser::{ClosedJob, Job, choose};
+use chooser::{ClosedJob, State, choose};
 use rules::CallRecord;
 use std::alloc::Global;
 
@@ -61,8 +61,8 @@ impl<'a> Trial<'a> {
     }
 
     // Holds the verdict of a search that was just closed against the runs before it, and against every choice.
-    fn check_close(&mut self, job: &Job<Mixed<'a>>) -> Result<()> {
-        let Job::Closed(job) = job else {
+    fn check_close(&mut self, job: &State<Mixed<'a>>) -> Result<()> {
+        let State::Closed(job) = job else {
             bail!("the job is running after its close");
         };
         let said = said_by(job)?.context("no verdict after a close")?;
@@ -76,7 +76,7 @@ impl<'a> Trial<'a> {
     }
 
     // Makes a call, by the job's own or by a record, and holds what comes of it against what is expected.
-    fn make(&mut self, job: Job<Mixed<'a>>, call: Call, expected: u8) -> Result<Job<Mixed<'a>>> {
+    fn make(&mut self, job: State<Mixed<'a>>, call: Call, expected: u8) -> Result<State<Mixed<'a>>> {
         let (job, answer) = if self.draw.one_in(2) {
             by_record(job, call)
         } else {
@@ -95,7 +95,7 @@ impl<'a> Trial<'a> {
     }
 
     // Draws a call and makes it.
-    fn make_next(&mut self, job: Job<Mixed<'a>>) -> Result<Job<Mixed<'a>>> {
+    fn make_next(&mut self, job: State<Mixed<'a>>) -> Result<State<Mixed<'a>>> {
         let call = Call::draw(self.judge.job, &self.model, &mut self.draw);
         let answer = self.model.answer(call);
         let request = call.request();
@@ -107,7 +107,7 @@ impl<'a> Trial<'a> {
     // Opens the job and makes all calls. A search that is running then is closed.
     fn make_all(&mut self) -> Result<()> {
         let drawn = self.judge.job;
-        let mut job = Job::Closed(ClosedJob::open(drawn.sheet, drawn.catalogue()?));
+        let mut job = State::Closed(ClosedJob::open(drawn.sheet, drawn.catalogue()?));
         check_state(&self.model, &job)?;
         for _ in 0..CALLS {
             job = self.make_next(job)?;

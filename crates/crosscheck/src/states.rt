@@ -4,7 +4,7 @@ use crate::limits::Limits;
 use crate::models::{Model, NO_SUCH_ROW, plain_fault};
 use crate::said::Said;
 use anyhow::{Result, anyhow, bail, ensure};
-use chooser::{ClosedJob, Job};
+use chooser::{ClosedJob, State};
 use rules::Fault;
 
 // What a job tells that was opened without fault.
@@ -46,11 +46,11 @@ pub(crate) fn check_closed(model: &Model, job: &ClosedJob<Mixed<'_>>) -> Result<
 }
 
 // Holds a job, closed or with a running search, against what is expected of it.
-pub(crate) fn check_state(model: &Model, job: &Job<Mixed<'_>>) -> Result<()> {
+pub(crate) fn check_state(model: &Model, job: &State<Mixed<'_>>) -> Result<()> {
     match (job, &model.running) {
-        (Job::Closed(job), None) => check_closed(model, job),
-        (Job::Running(_), Some(_)) => Ok(()),
-        (Job::Closed(_), Some(_)) => bail!("the job is closed"),
-        (Job::Running(_), None) => bail!("the job is running"),
+        (State::Closed(job), None) => check_closed(model, job),
+        (State::Running(_), Some(_)) => Ok(()),
+        (State::Closed(_), Some(_)) => bail!("the job is closed"),
+        (State::Running(_), None) => bail!("the job is running"),
     }
 }
