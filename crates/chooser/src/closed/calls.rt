@@ -64,7 +64,8 @@ impl<C: Catalogue> ClosedJob<C> {
     pub fn into_job(self) -> Job<C>
         ensures { result ≡ self.job }
     {
-        self.job
+        let ClosedJob { job } = self;
+        job
     }
 
     // The fault of the opening, if it found one.

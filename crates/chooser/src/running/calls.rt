@@ -45,7 +45,8 @@ impl<C: Catalogue> RunningJob<C> {
     pub fn into_job(self) -> Job<C>
         ensures { result ≡ self.job }
     {
-        self.job
+        let RunningJob { job } = self;
+        job
     }
 
     // The fault of the opening, if it found one.
