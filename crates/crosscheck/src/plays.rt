@@ -76,7 +76,12 @@ impl<'a> Trial<'a> {
     }
 
     // Makes a call, by the job's own or by a record, and holds what comes of it against what is expected.
-    fn make(&mut self, job: State<Mixed<'a>>, call: Call, expected: u8) -> Result<State<Mixed<'a>>> {
+    fn make(
+        &mut self,
+        job: State<Mixed<'a>>,
+        call: Call,
+        expected: u8,
+    ) -> Result<State<Mixed<'a>>> {
         let (job, answer) = if self.draw.one_in(2) {
             by_record(job, call)
         } else {

@@ -16,11 +16,7 @@ use rules::{CallRecord, Fault, Refusal, Sheet};
 pub const MOST_REPORTED: usize = 256;
 
 // Carries out call records on a job, and writes their lines behind the first line.
-fn page_of<C: Catalogue + Drop>(
-    sheet: &Sheet,
-    job: Job<C>,
-    records: &mut [CallRecord],
-) -> Page
+fn page_of<C: Catalogue + Drop>(sheet: &Sheet, job: Job<C>, records: &mut [CallRecord]) -> Page
     ensures records { records.new ≡ all_answered (setting (C.Catalogue.meaning job.catalogue) job.sheet) (kept_of job) records.old }
     ensures text { result.bytes.items ≡ fitting (job_line sheet.now ++ calls_text (C.Catalogue.meaning job.catalogue) job.sheet (kept_of job) 1 records.old) }
 {

@@ -39,12 +39,7 @@ impl Page {
     }
 
     // Carries out a record, and writes its line; where a search is closed by it, the verdict comes right behind.
-    fn put_record<C: Catalogue>(
-        &mut self,
-        job: &mut Job<C>,
-        number: usize,
-        call: &mut CallRecord,
-    )
+    fn put_record<C: Catalogue>(&mut self, job: &mut Job<C>, number: usize, call: &mut CallRecord)
         ensures sheet { job.new.sheet ≡ job.old.sheet }
         ensures catalogue { job.new.catalogue ≡ job.old.catalogue }
         ensures done { Recorded (C.Catalogue.meaning job.old.catalogue) job.old.sheet (kept_of job.old) number call.old call.new (kept_of job.new) self.old self.new }
