@@ -1,5 +1,5 @@
 #!/usr/bin/env python3
-"""Counts the places of docs/DESIGN-PASS.md in a checkout: tools/places.py [TOP] [-v]. With -v each place is listed."""
+"""Counts the places of docs/history/DESIGN-PASS.md in a checkout: places.py [TOP] [-v]. With -v each place is listed."""
 
 import re
 import sys

@@ -1,7 +1,7 @@
 #!/usr/bin/env python3
 """Respells the names of this repository's definitions and lemmas: types in camel case, all else in snake case.
 
-usage: python3 tools/respell.py [--dry]     at the top of a repository that port.py has turned
+usage: python3 respell.py [--dry]     at the top of a repository that port.py has turned
 
 A name is the repository's own if a file of specs/ or proofs/ defines it: at the head of a line, as a constructor, a field,
 or a local of a `where` or `module _`. Goals (`name : goal.name`) and what Rattle makes keep their dashes.
