@@ -13,9 +13,11 @@ The text has a line for each thing that a job states, in this order. Words are p
 
 Rows, places and versions are numbered as they come: rows from 1 on, since the price is row 0. Each line is one field of the
 file (docs/FORMAT.md), but for `place`. What the file states is a valid job: any other text is refused, with the line
-that is wrong, and then no file is written.
+that is wrong, and then no file is written. The text is read as UTF-8, with a byte order mark or without one, and is never
+written over.
 """
 
+import os
 import re
 import sys
 from collections.abc import Callable
@@ -193,12 +195,18 @@ def write(job: Job) -> bytes:
     return b"".join(fields)
 
 
+def same_file(text: str, made: str) -> bool:
+    """Whether both are one file, by whatever names or links."""
+    return os.path.exists(made) and os.path.samefile(text, made)
+
+
 def main(words: list[str]) -> int:
     if len(words) != 2:
         print("usage: tools/job.py TEXT JOB", file=sys.stderr)
         return 2
     try:
-        made = write(read_text(Path(words[0]).read_text()))
+        want(not same_file(*words), "the job file would be written over the text")
+        made = write(read_text(Path(words[0]).read_text(encoding="utf-8-sig")))
         Path(words[1]).write_bytes(made)
     except (Refused, OSError, UnicodeDecodeError) as why:
         print(f"{words[0]}: {why}", file=sys.stderr)
