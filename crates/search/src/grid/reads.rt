@@ -25,8 +25,7 @@ impl Grid {
         self.last_row
     }
 
-    // The kind of a row. A row stays a plain number here and in `amount`, `limit` and `starting_line`:
-    // lines have it so, and a struct for its bound is no plainer than the clause.
+    // The kind of a row, which is a plain number here as it is in a line.
     pub(crate) fn kind(&self, row: u8) -> Kind
         requires { row ≤ greatest_row }
         ensures { result ≡ slice_index_or self.now.kinds row SumAtMost }
