@@ -9,7 +9,7 @@ use rules::{Fault, Refusal};
 
 impl<C: Catalogue> Job<C> {
     // The fault of the opening, if it found one.
-    pub fn fault(&self) -> Option<Fault>
+    pub(crate) fn fault(&self) -> Option<Fault>
         ensures { result ≡ fault_of (kept_of self.now) }
     {
         match &self.opened {
@@ -26,7 +26,7 @@ impl<C: Catalogue> Job<C> {
     }
 
     // The limit in force on a row, that of row 0 being the price cap.
-    pub fn limit(&self, row: u8) -> Result<i64, Fault>
+    pub(crate) fn limit(&self, row: u8) -> Result<i64, Fault>
         ensures { result ≡ limit_told self.now.sheet (kept_of self.now) row }
     {
         match &self.opened {

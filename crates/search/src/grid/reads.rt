@@ -10,7 +10,7 @@ use rules::{Kind, MOST_VERSIONS};
 
 impl Grid {
     // How many places there are.
-    pub fn places(&self) -> usize
+    pub(crate) fn places(&self) -> usize
         ensures is { result ≡ self.now.places }
         ensures most { result ≤ most_places }
     {
@@ -18,7 +18,7 @@ impl Grid {
     }
 
     // The number of the last row.
-    pub fn last_row(&self) -> usize
+    pub(crate) fn last_row(&self) -> usize
         ensures is { result ≡ self.now.last_row }
         ensures most { result ≤ greatest_row }
     {
