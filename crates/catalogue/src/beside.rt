@@ -22,7 +22,7 @@ impl<F, S> Beside<F, S> {
     }
 }
 
-// Each question chooses the side anew: two closures, one for each side, are longer than the test, and so no plainer.
+// Each question tests which side has the place: the two are of different types, so that no one value stands for either.
 impl<F: Catalogue, S: Catalogue> Catalogue for Beside<F, S> {
     ghost meaning = { λ s. besides (F.Catalogue.meaning s.first) (S.Catalogue.meaning s.second) };
 

@@ -1,5 +1,4 @@
-// What the catalogues made place by place have in common. Not a generic table: of a place only the count is shared, and each
-// clause would reach the rest through one field more, so that it is no plainer.
+// What the catalogues made place by place have in common: of a place, its count of versions alone.
 ghost use Rattle.std.specs.Prelude.{◌≡◌, ◌-◌, ◌<◌, ◌≤◌, length, MatchOption};
 ghost use Rattle.std.specs.List.{HoldsAt};
 ghost use Rattle.rules.specs.declared.refusals.Refusal.TheVariants.{CountOutside};

@@ -1,7 +1,7 @@
 // What a record asks for.
 ghost use Rattle.std.specs.Prelude.{◌≡◌};
 ghost use Rattle.rules.specs.Records.{asked};
-ghost use Rattle.chooser.specs.Requests.{call_asked, turned};
+ghost use Rattle.chooser.specs.Requests.{call_asked, call_of, turned};
 
 use rules::Request;
 
@@ -34,7 +34,7 @@ pub(crate) fn asked_for(request: Request) -> Option<Call>
 impl Call {
     // Whether a search is running after the call, whatever it is answered: a search begins one, a close ends it.
     pub(crate) fn turned(self, running: bool) -> bool
-        ensures { result ≡ turned running self }
+        ensures { result ≡ turned running (call_of self) }
     {
         match self {
             Call::Search => true,

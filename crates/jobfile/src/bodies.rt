@@ -29,7 +29,6 @@ pub(crate) struct LadderBody {
     pub(crate) count: u8,
     // Whole: a ladder takes a rung for every row that there may be.
     pub(crate) rungs: [Rung; MOST_ROWS],
-    // A bound of three owners (sheet, body, loop): a struct for it is no plainer than the clause.
     ghost few: { last_row ≤ greatest_row },
 }
 

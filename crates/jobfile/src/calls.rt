@@ -18,7 +18,7 @@ impl Calls {
     ghost use Rattle.jobfile.specs.CallTables.{calls_of, room_for_call};
 
     // No call yet.
-    pub fn none() -> Calls
+    pub(crate) fn none() -> Calls
         ensures { calls_of result ≡ [] }
     {
         Calls {
@@ -34,7 +34,7 @@ impl Calls {
     }
 
     // One call more behind the others; nothing is altered where there is no space.
-    pub fn push(&mut self, request: Request) -> Result<(), Refusal>
+    pub(crate) fn push(&mut self, request: Request) -> Result<(), Refusal>
         ensures told { result ≡ room_for_call (calls_of self.old) }
         ensures calls { MatchResult result (λ _. calls_of self.new ≡ calls_of self.old ++ request ∷ []) (λ _. calls_of self.new ≡ calls_of self.old) }
     {

@@ -1,5 +1,4 @@
-// The amounts are added, and the less total is worse. It differs from the other sum in its order alone: a struct with the
-// order as a parameter is no plainer than these lines.
+// The amounts are added, and the less total is worse.
 ghost use Rattle.std.specs.Prelude.{refl};
 ghost use Rattle.rules.specs.Joinings.{sum_at_least};
 ghost use Rattle.rules.proofs.JoiningLaws.{sum_at_least_laws};

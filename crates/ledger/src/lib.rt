@@ -15,7 +15,7 @@ pub use unheld::Unheld;
 mod tests {
     use super::*;
     use joining::SumAtMost;
-    use rules::{Line, MOST_GROUNDS, MOST_LINES};
+    use rules::{Line, MOST_GROUNDS};
 
     fn line(row: u8, level: u8, constant: i64) -> Line {
         Line {
@@ -50,7 +50,6 @@ mod tests {
         }
         assert_eq!(rt; ledger.push(&[]), Err(Unheld::NoSpace));
         assert_eq!(rt; ledger.count(), MOST_GROUNDS);
-        assert_eq!(rt; ledger.lines_held(), MOST_LINES);
         assert_eq!(rt; ledger.ground(MOST_GROUNDS - 1), ground.as_slice());
         assert_eq!(rt; ledger.ground(MOST_GROUNDS).len(), 0);
         ledger.clear();

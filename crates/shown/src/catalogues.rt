@@ -30,7 +30,7 @@ impl<C: Catalogue> fmt::Display for VersionText<'_, C> {
     }
 }
 
-// The versions of a place, a line each. 0 versions where there is no such place: an `if let` around the loop is no plainer.
+// The versions of a place, a line each; no line where there is no such place.
 #[derive(Drop)]
 struct PlaceText<'a, C> {
     catalogue: &'a C,

@@ -13,6 +13,7 @@ use crate::job::Job;
 use crate::requests::Call;
 use crate::running::RunningJob;
 use crate::verdicts::Seen;
+use crate::view::ClosedView;
 use catalogue::Catalogue;
 use rules::{Fault, Sheet};
 
@@ -87,6 +88,6 @@ impl<C: Catalogue> ClosedJob<C> {
         ensures told { verdict_in result ≡ verdict_told self.now.job.sheet (kept_of self.now.job) }
         ensures prices { IfOk result (λ verdict. IfSome verdict (λ v. PricesRight (C.Catalogue.meaning self.now.job.catalogue) self.now.job.sheet v.says)) }
     {
-        self.job.verdict()
+        ClosedView { job: &self.job }.verdict()
     }
 }

@@ -17,7 +17,7 @@ impl<C: Catalogue> Job<C> {
     pub(crate) fn make(&mut self, call: Call) -> Result<Made, Fault>
         ensures told { made_told result ≡ told_on (setting (C.Catalogue.meaning self.old.catalogue) self.old.sheet) (kept_of self.old) (call_of call) }
         ensures job { kept_of self.new ≡ job_by (setting (C.Catalogue.meaning self.old.catalogue) self.old.sheet) (kept_of self.old) (call_of call) }
-        ensures running { self.new.running ≡ turned self.old.running call }
+        ensures running { self.new.running ≡ turned self.old.running (call_of call) }
         ensures sheet { self.new.sheet ≡ self.old.sheet }
         ensures catalogue { self.new.catalogue ≡ self.old.catalogue }
     {

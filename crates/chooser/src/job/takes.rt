@@ -3,6 +3,7 @@ ghost use Rattle.std.specs.Prelude.{◌≡◌};
 ghost use Rattle.rules.specs.Settings.{setting};
 ghost use Rattle.rules.specs.Records.{answer_to, job_after, closed_job};
 ghost use Rattle.chooser.specs.Models.{fault_or, number_told};
+ghost use Rattle.chooser.specs.Requests.{turned_by};
 ghost use Rattle.chooser.specs.States.{kept_of};
 
 use crate::closed::ClosedJob;
@@ -33,10 +34,12 @@ impl<C: Catalogue> Job<C> {
         }
     }
 
-    // Takes the request of a record, and gives its answer: 0, or the number of the refusal.
+    // Takes the request of a record, and gives its answer: 0, or the number of the refusal. A job with a fault answers its number and
+    // alters nothing but whether a search is running: the request for a search begins one, that for a close ends it.
     pub fn take(&mut self, request: Request) -> u8
         ensures answer { result ≡ answer_to (setting (C.Catalogue.meaning self.old.catalogue) self.old.sheet) (kept_of self.old) request }
         ensures job { kept_of self.new ≡ job_after (setting (C.Catalogue.meaning self.old.catalogue) self.old.sheet) (kept_of self.old) request }
+        ensures running { self.new.running ≡ turned_by self.old.running request }
         ensures sheet { self.new.sheet ≡ self.old.sheet }
         ensures catalogue { self.new.catalogue ≡ self.old.catalogue }
     {

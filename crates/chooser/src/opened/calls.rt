@@ -82,7 +82,7 @@ impl Opened {
     #[tactic(auto, unfolding(rules::specs::Calls::reply))]
     pub(crate) fn make(&mut self, running: bool, call: Call) -> Result<Made, Refusal>
         ensures answer { made_answer result ≡ (reply (chosen_from self.old.search) (job_of running self.old) (call_of call)).answer }
-        ensures job { job_of (turned running call) self.new ≡ (reply (chosen_from self.old.search) (job_of running self.old) (call_of call)).job }
+        ensures job { job_of (turned running (call_of call)) self.new ≡ (reply (chosen_from self.old.search) (job_of running self.old) (call_of call)).job }
         ensures grid { chosen_from self.new.search ≡ chosen_from self.old.search }
     {
         match (call, running) {

@@ -42,6 +42,34 @@ fn no_record(rt: HostRuntime) -> Result<(), Fail> {
     Ok(())
 }
 
+// A request that names no row.
+fn request(code: u8, number: i32) -> Request {
+    Request {
+        code,
+        row: 0,
+        number,
+    }
+}
+
+// What a job that takes records in its place tells as a closed one.
+fn steps_told(job: &Job<Ladder>) -> Result<Option<u32>, Fail> {
+    let closed = job.as_closed().ok_or("running")?;
+    Ok(closed.verdict()?.map(|seen| seen.steps))
+}
+
+#[test]
+fn a_verdict_of_a_closed_job_alone(rt: HostRuntime) -> Result<(), Fail> {
+    let mut job = worked()?.into_job();
+    assert_eq!(rt; steps_told(&job)?, None);
+    for (code, number) in [(3, 0), (4, 100)].iter() {
+        assert_eq!(rt; job.take(request(*code, *number)), 0);
+        assert!(rt; job.as_closed().is_none());
+    }
+    assert_eq!(rt; job.take(request(5, 0)), 0);
+    assert_eq!(rt; steps_told(&job)?, Some(9));
+    Ok(())
+}
+
 #[test]
 fn closed_after_the_last_record(rt: HostRuntime) -> Result<(), Fail> {
     let calls = [(3, 0, 0, 0), (4, 0, 3, 0)];

@@ -1,5 +1,4 @@
-// The bodies of fields, one kind after the other. `Due` stays a clause: each names its own field, and a struct of reader and
-// body for one call is no plainer.
+// The bodies of fields, one kind after the other.
 ghost use Rattle.jobfile.specs.declared.fields.Field.TheVariants as field;
 
 use crate::checks::{check_call, check_order, check_row, check_sheet};

@@ -1,7 +1,7 @@
 // What a ledger is asked.
 ghost use Rattle.std.specs.Prelude.{◌≡◌, ◌≤◌, [], length, slice_index_or};
-ghost use Rattle.rules.specs.Bounds.{most_grounds, most_lines};
-ghost use Rattle.rules.specs.Search.{room, line_count};
+ghost use Rattle.rules.specs.Bounds.{most_grounds};
+ghost use Rattle.rules.specs.Search.{room};
 ghost use Rattle.ledger.specs.Lines.{AllNear};
 ghost use Rattle.ledger.specs.Tables.{lowest_level};
 ghost use Rattle.ledger.specs.Model.{held};
@@ -16,15 +16,6 @@ impl Ledger {
         ensures most { result ≤ most_grounds }
     {
         self.grounds.len()
-    }
-
-    // How many lines the grounds have together.
-    #[tactic(auto, using(crate::proofs::Cuts::counted))]
-    pub fn lines_held(&self) -> usize
-        ensures is { result ≡ line_count (held self.now) }
-        ensures most { result ≤ most_lines }
-    {
-        self.lines.len()
     }
 
     // Whether there is space for one ground more.

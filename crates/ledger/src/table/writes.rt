@@ -46,7 +46,7 @@ impl Ledger {
         });
     }
 
-    // Writes one line, behind those of the newest ground. By a rule of the project one element is written by a method of its own.
+    // Writes one line, behind those of the newest ground, which is longer by it: so what a ledger keeps holds between the lines too.
     fn put_line(&mut self, line: Line)
         requires open { 0 < length (held self.old) }
         requires room { line_count (held self.old) < most_lines }

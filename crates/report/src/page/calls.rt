@@ -84,11 +84,14 @@ impl Page {
         }
     }
 
-    // Writes the verdict that a job carries, if it carries one.
+    // Writes the verdict that a job carries, if it is closed and carries one.
     fn put_verdict<C: Catalogue>(&mut self, job: &Job<C>)
         ensures { Puts self.old (verdict_text (C.Catalogue.meaning job.now.catalogue) job.now.sheet (seen_of job.now.sheet (kept_of job.now))) self.new }
     {
-        if let Ok(Some(seen)) = job.verdict() {
+        let Some(closed) = job.as_closed() else {
+            return;
+        };
+        if let Ok(Some(seen)) = closed.verdict() {
             self.put_seen(&seen);
         }
     }

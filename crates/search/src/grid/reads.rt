@@ -10,7 +10,7 @@ use rules::{Kind, MOST_VERSIONS};
 
 impl Grid {
     // How many places there are.
-    pub fn places(&self) -> usize
+    pub(crate) fn places(&self) -> usize
         ensures is { result ≡ self.now.places }
         ensures most { result ≤ most_places }
     {
@@ -18,15 +18,14 @@ impl Grid {
     }
 
     // The number of the last row.
-    pub fn last_row(&self) -> usize
+    pub(crate) fn last_row(&self) -> usize
         ensures is { result ≡ self.now.last_row }
         ensures most { result ≤ greatest_row }
     {
         self.last_row
     }
 
-    // The kind of a row. A row stays a plain number here and in `amount`, `limit` and `starting_line`:
-    // lines have it so, and a struct for its bound is no plainer than the clause.
+    // The kind of a row, which is a plain number here as it is in a line.
     pub(crate) fn kind(&self, row: u8) -> Kind
         requires { row ≤ greatest_row }
         ensures { result ≡ slice_index_or self.now.kinds row SumAtMost }

@@ -46,25 +46,26 @@ impl<'a> Place<'a> {
         }
     }
 
-    // The lowest version with which no ground stands, or the first ground that stands with each. By a rule of the project loops with
-    // labels: at the first ground that stands, on to the next version.
+    // The lowest version with which no ground stands, or the first ground that stands with each: at the first ground that stands, on
+    // to the next version; behind the last ground the version is free.
     pub(crate) fn look(&self) -> Looked
         ensures free { let s = self.now.search.now in result.free ≡ lowest_free (chosen_from s) (job_limits s) (state_of s) (above_place self.now) (versions_at self.now) }
         ensures stood { result.free ≡ None → StoodTo self.now.search.now (above_place self.now) (versions_at self.now) result.stopped }
     {
         let mut stopped = [0; VERSIONS];
-        let mut free = None;
-        'versions: for version in 1..=self.search.grid.versions(self.index) {
-            let trial = self.trial(version);
-            for ground in self.first_look(version)..self.search.ground_count() {
-                if trial.ground_stands(ground) {
-                    stopped[usize::from(version) - 1] = ground;
-                    continue 'versions;
+        let free = 'free: {
+            'versions: for version in 1..=self.search.grid.versions(self.index) {
+                let trial = self.trial(version);
+                'grounds: for ground in self.first_look(version)..self.search.ground_count() {
+                    if trial.ground_stands(ground) {
+                        stopped[usize::from(version) - 1] = ground;
+                        continue 'versions;
+                    }
                 }
+                break 'free Some(version);
             }
-            free = Some(version);
-            break;
-        }
+            None
+        };
         Looked { free, stopped }
     }
 }

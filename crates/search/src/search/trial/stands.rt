@@ -39,7 +39,7 @@ impl Trial<'_> {
                 .breaks_limit(near, self.above(level, near.line.row))
     }
 
-    // A ground stands when each of its lines does; by a rule of the project a plain loop, left at the first that doesn't.
+    // A ground stands when each of its lines does: the loop is left at the first that doesn't.
     fn lines_stand(&self, ground: &[Line]) -> bool
         requires { AllNear ground.now }
         ensures { result ≡ holds self.now ground.now }

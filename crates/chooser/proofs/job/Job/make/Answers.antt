@@ -12,7 +12,7 @@ invariant_of-self g c =
     let before = c.in-Ok.opened in
     let after = c.make.new.self in
     let kept =
-    goes_on m j.sheet (call_of c.args.call) (job_of j.running before) (job_of (turned j.running c.args.call) after) (chosen_from before.search) (chosen_from after.search)
+    goes_on m j.sheet (call_of c.args.call) (job_of j.running before) (job_of (turned j.running (call_of c.args.call)) after) (chosen_from before.search) (chosen_from after.search)
     c.make.ensures.grid c.make.ensures.job (in_opened m j.sheet j.running _ before c.in-Ok.is (j.seen, j.came))
     in
     record { seen = kept.0; came = rw c.turned-self.ensures kept.1 }

@@ -8,13 +8,13 @@ use Rattle.search.proofs.search.place.Place.look.Goals.{After-ground_stands}
 use Rattle.search.proofs.search.place.Place.look.Goals as goal
 
 -- with a ground standing, no version up to the one tried is free, and for each the first ground is found
-stopped_to : (c : After-ground_stands) → true ≡ holds c.trial-trial.result (get_or (grounds c.trial-trial.result.search.now) c.loop-ground.ground [])
-    → (lowest_free (chosen_from c.args.self.now.search.now) (job_limits c.args.self.now.search.now) (state_of c.args.self.now.search.now) (above_place c.args.self.now) c.versions.version ≡ None) × StoodTo c.args.self.now.search.now (above_place c.args.self.now) c.versions.version (set c.loop-ground.stopped (c.versions.version - 1) c.loop-ground.ground)
+stopped_to : (c : After-ground_stands) → true ≡ holds c.trial-trial.result (get_or (grounds c.trial-trial.result.search.now) c.grounds.ground [])
+    → (lowest_free (chosen_from c.args.self.now.search.now) (job_limits c.args.self.now.search.now) (state_of c.args.self.now.search.now) (above_place c.args.self.now) c.versions.version ≡ None) × StoodTo c.args.self.now.search.now (above_place c.args.self.now) c.versions.version (set c.grounds.stopped (c.versions.version - 1) c.grounds.ground)
 stopped_to c on =
     let t = c.trial-trial in
-    let inv = c.loop-ground.invariant in
-    let long : c.versions.version ≤ length c.loop-ground.stopped = omega (arith, inv.long, c.versions-version-end.ensures.most, c.versions-test.true) in
-    looked_on c.args.self.now c.versions.version t.result t.ensures.search t.ensures.tried c.loop-ground.ground inv.passed c.versions.auto.version c.versions.invariant.below c.loop-ground.stopped long inv.stood (omega (arith, c.ground_count-ground-end.ensures)) on
+    let inv = c.grounds.invariant in
+    let long : c.versions.version ≤ length c.grounds.stopped = omega (arith, inv.long, c.versions-version-end.ensures.most, c.versions-test.true) in
+    looked_on c.args.self.now c.versions.version t.result t.ensures.search t.ensures.tried c.grounds.ground inv.passed c.versions.auto.version c.versions.invariant.below c.grounds.stopped long inv.stood (omega (arith, c.ground_count-ground-end.ensures)) on
 
 pub versions-preserved : goal.versions-preserved
 versions-preserved c =
@@ -23,11 +23,10 @@ versions-preserved c =
     let on = stopped_to (goal.at.versions-preserved c).After-ground_stands c.if-ground_stands.ensures in
     let back : c.versions.version ≡ c.versions.version + 1 - 1 = omega arith in
     record {
-      none = c.versions.invariant.none;
       below = subst (λ k. lowest_free (chosen_from s) (job_limits s) (state_of s) (above_place p) k ≡ None) back on.0;
       last = omega arith;
-      long = length-set c.loop-ground.stopped (c.from.result - 1) c.loop-ground.ground ∙ c.loop-ground.invariant.long;
-      stood = subst (λ k. StoodTo s (above_place p) k (set c.loop-ground.stopped (c.from.result - 1) c.loop-ground.ground)) back (rw c.from.ensures on.1);
+      long = length-set c.grounds.stopped (c.from.result - 1) c.grounds.ground ∙ c.grounds.invariant.long;
+      stood = subst (λ k. StoodTo s (above_place p) k (set c.grounds.stopped (c.from.result - 1) c.grounds.ground)) back (rw c.from.ensures on.1);
     }
 
 pub returns-then-ground_stands-clause-free : goal.returns-then-ground_stands-clause-free
@@ -36,28 +35,28 @@ returns-then-ground_stands-clause-free c =
     let s = p.search.now in
     let on = stopped_to (goal.at.returns-then-ground_stands-clause-free c).After-ground_stands c.if-ground_stands.ensures in
     let all : c.versions.version ≡ versions_at p = omega (arith, c.versions-version-end.ensures.is) in
-    c.versions.invariant.none ∙ sym on.0 ∙ ap (lowest_free (chosen_from s) (job_limits s) (state_of s) (above_place p)) all
+    sym on.0 ∙ ap (lowest_free (chosen_from s) (job_limits s) (state_of s) (above_place p)) all
 
 pub returns-then-ground_stands-clause-stood : goal.returns-then-ground_stands-clause-stood
 returns-then-ground_stands-clause-stood c = λ none.
     let p = c.args.self.now in
     let on = stopped_to (goal.at.returns-then-ground_stands-clause-stood c).After-ground_stands c.if-ground_stands.ensures in
     let all : c.versions.version ≡ versions_at p = omega (arith, c.versions-version-end.ensures.is) in
-    subst (λ k. StoodTo p.search.now (above_place p) k (set c.loop-ground.stopped (c.from.result - 1) c.loop-ground.ground)) all (rw c.from.ensures on.1)
+    subst (λ k. StoodTo p.search.now (above_place p) k (set c.grounds.stopped (c.from.result - 1) c.grounds.ground)) all (rw c.from.ensures on.1)
 
-pub returns : goal.returns
-returns c =
+pub returns-2 : goal.returns-2
+returns-2 c =
     let p = c.args.self.now in
     let s = p.search.now in
     let inv = c.versions.invariant in
     let all : c.versions.version - 1 ≡ versions_at p = omega (arith, c.versions-version-end.ensures.is, inv.last) in
     record {
-      free = inv.none ∙ sym inv.below ∙ ap (lowest_free (chosen_from s) (job_limits s) (state_of s) (above_place p)) all;
+      free = sym inv.below ∙ ap (lowest_free (chosen_from s) (job_limits s) (state_of s) (above_place p)) all;
       stood = λ none. subst (λ k. StoodTo s (above_place p) k c.versions.stopped) all inv.stood;
     }
 
-pub returns-2-clause-free : goal.returns-2-clause-free
-returns-2-clause-free c =
+pub returns-clause-free : goal.returns-clause-free
+returns-clause-free c =
     let p = c.args.self.now in
     let t = c.trial-trial in
-    sym (trial_free p c.versions.version t.result t.ensures.search t.ensures.tried c.loop-ground.ground c.loop-ground.invariant.passed c.versions.auto.version c.versions.invariant.below (omega (arith, c.ground_count-ground-end.ensures)) (versions_at p) (omega (arith, c.versions-version-end.ensures.is)))
+    sym (trial_free p c.versions.version t.result t.ensures.search t.ensures.tried c.grounds.ground c.grounds.invariant.passed c.versions.auto.version c.versions.invariant.below (omega (arith, c.ground_count-ground-end.ensures)) (versions_at p) (omega (arith, c.versions-version-end.ensures.is)))

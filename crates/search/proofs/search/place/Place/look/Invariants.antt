@@ -6,8 +6,8 @@ use Rattle.search.specs.Looks.{StoodTo}
 use Rattle.search.specs.Trials.{first_at, above_place}
 use Rattle.search.proofs.search.place.Place.look.Given as goal
 
-abbrev pub invariant-loop-ground : goal.invariant-loop-ground
-invariant-loop-ground l =
+abbrev pub invariant-grounds : goal.invariant-grounds
+invariant-grounds l =
     let gs = grounds l.trial.search.now in
     record {
       passed : first_at l.trial gs ≡ first_at l.trial (drop l.ground gs);
@@ -19,7 +19,6 @@ abbrev pub invariant-versions : goal.invariant-versions
 invariant-versions l =
     let s = l.self.search.now in
     record {
-      none : l.free ≡ None;
       below : lowest_free (chosen_from s) (job_limits s) (state_of s) (above_place l.self) (l.version - 1) ≡ None;
       last : l.version ≤ l.version-end + 1;
       long : length l.stopped ≡ most_versions;
