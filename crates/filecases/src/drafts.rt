@@ -90,7 +90,7 @@ impl Draft {
         self.numbers(&[number])
     }
 
-    // So many calls of a search. Here and below a loop: a closure for the call would be longer.
+    // So many calls of a search.
     pub(crate) fn searches(&mut self, count: u16) -> Result<(), AllocError> {
         for _ in 0..count {
             self.call(3, 0, 0)?;

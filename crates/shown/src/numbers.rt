@@ -4,8 +4,8 @@ ghost use Rattle.shown.specs.Texts.{numbers_text};
 
 use std::fmt;
 
-// So many numbers from the front of a table, each behind a space. The count stands beside the table: cut to the table's
-// length, it leaves open that what is cut is the table's front, and is no shorter.
+// So many numbers from the front of a table, each behind a space. The count stands beside the table: of a table that was cut it
+// would be open that it is the front of one.
 #[derive(Drop)]
 pub(crate) struct FirstNumbers<'a> {
     pub(crate) count: u8,
