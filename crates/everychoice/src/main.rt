@@ -31,7 +31,9 @@ fn print_job(rt: &impl Print, file: &[u8], job: Job) -> io::Result<()> {
 // The line of a fault.
 fn print_fault(rt: &HostRuntime, fault: &Fault) -> anyhow::Result<()> {
     let mut line = [0; FAULT_BUFFER];
-    let length = write_fault(fault, &mut line)?;
+    let Ok(length) = write_fault(fault, &mut line) else {
+        unreachable()
+    };
     rt.stdout().write_all(&line[..length])?;
     Ok(())
 }

@@ -7,7 +7,7 @@ use Rattle.jobfile.specs.declared.job.Job.{Job}
 use Rattle.jobfile.specs.Opened.{stated_meaning}
 use Rattle.jobfile.specs.Reading.{read}
 use Rattle.jobfile.specs.Jobs.{RightlyRead, job_meaning, says, stated_by}
-use Rattle.jobfile.specs.Sound.{SameRows}
+use Rattle.jobfile.specs.Sound.{BlankPastLast, SameRows}
 use Rattle.jobfile.proofs.Codec.{Bytes}
 use Rattle.jobfile.proofs.LadderReads.{length_ladders}
 use Rattle.jobfile.proofs.Listings.{length_listed}
@@ -27,10 +27,11 @@ module _ (file : List ℕ) (small : Bytes file) where
   refused_says (Ok j) f e = absurd (cc)
   refused_says (Err g) f e = let same : g ≡ f = cc in ap Err same
 
-  pub rightly_read : (answer : Result Job Fault) → says file answer ≡ read file → IfOk answer SameRows → RightlyRead file answer
-  rightly_read answer is rows =
+  pub rightly_read : (answer : Result Job Fault) → says file answer ≡ read file → IfOk answer SameRows → IfOk answer BlankPastLast → RightlyRead file answer
+  rightly_read answer is rows blank =
       record {
         accepted = λ j. (λ e. (read_law file small j).0 (sym is ∙ e), λ h. is ∙ (read_law file small j).1 h);
         refused = λ f. (λ e. (refused_law file small f).0 (sym is ∙ ap (says file) e), λ h. refused_says answer f (is ∙ (refused_law file small f).1 h));
         catalogue = catalogue_read answer is rows;
+        sheet = blank;
       }

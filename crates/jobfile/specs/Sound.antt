@@ -1,8 +1,9 @@
 -- What holds of a job as far as it is read from a file. Assumes nothing.
-use Rattle.std.specs.Prelude.{◌≡◌, ℕ, suc, ◌+◌, ◌≤◌, true, false, List, [], length}
+use Rattle.std.specs.Prelude.{◌≡◌, ℕ, suc, ◌+◌, ◌≤◌, true, false, List, [], length, slice_index_or}
 use Rattle.arrayvec.specs.ArrayVec.{array_vec_len}
 use Rattle.rules.specs.Bounds.{most_places, greatest_row}
-use Rattle.rules.specs.Sheets.{last_row}
+use Rattle.rules.specs.declared.sheets.Sheet.{Sheet}
+use Rattle.rules.specs.Sheets.{blank_row, last_row}
 use Rattle.catalogue.specs.Listed.{last_listed, next_start}
 use Rattle.jobfile.specs.declared.fields.Section.{Section}
 use Rattle.jobfile.specs.declared.fields.Section.TheVariants as section
@@ -16,6 +17,14 @@ pub record SameRows (j : Job) : Type 0 where
   pub listing : j.listing.rows ≡ suc (last_row j.sheet)
   pub ladder : j.ladder.rows ≡ suc (last_row j.sheet)
 
+-- Behind so many rows, from row 1 on, the table of a sheet is blank.
+abbrev pub BlankAfter : ℕ → Sheet → Type 0
+BlankAfter rows s = (r : ℕ) → rows ≤ r → slice_index_or s.rows r blank_row ≡ blank_row
+
+-- Past its last row the sheet of a job in memory is blank.
+abbrev pub BlankPastLast : Job → Type 0
+BlankPastLast j = BlankAfter (last_row j.sheet) j.sheet
+
 -- What holds at all times, with so many rows read.
 pub record Sound (file : List ℕ) (rows : ℕ) (j : Job) : Type 0 where
   pub short : length file ≤ most_bytes
@@ -24,6 +33,7 @@ pub record Sound (file : List ℕ) (rows : ℕ) (j : Job) : Type 0 where
   pub row_table : length j.sheet.rows ≡ greatest_row
   pub order_table : length j.sheet.order ≡ most_places
   pub rows_read : rows ≤ last_row j.sheet
+  pub blank : BlankAfter rows j.sheet
   pub same_rows : SameRows j
   pub end : j.listing.end ≡ length file
   pub placed : array_vec_len j.listing.places + array_vec_len j.ladder.places ≤ j.sheet.places

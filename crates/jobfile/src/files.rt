@@ -1,7 +1,7 @@
 // Job files, from bytes to jobs.
 ghost use Rattle.std.specs.Prelude.{◌≡◌, IfOk};
 ghost use Rattle.jobfile.specs.Jobs.{RightlyRead, says};
-ghost use Rattle.jobfile.specs.Sound.{SameRows};
+ghost use Rattle.jobfile.specs.Sound.{BlankPastLast, SameRows};
 ghost use Rattle.jobfile.specs.Reading.{read as what_is_read};
 
 use crate::bounds::MOST_BYTES;
@@ -14,6 +14,7 @@ use rules::{Fault, Refusal};
 fn read_whole(file: &[u8]) -> Result<Job, Fault>
     ensures job { says file.now result ≡ what_is_read file.now }
     ensures rows { IfOk result SameRows }
+    ensures blank { IfOk result BlankPastLast }
 {
     if file.len() > MOST_BYTES {
         return Err(fault_at(Refusal::FileTooLong, MOST_BYTES as u16));

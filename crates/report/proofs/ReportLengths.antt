@@ -45,7 +45,7 @@ module _ (m : Meaning) (w : SoundMeaning m) (s : Sheet) (f : Faultless m s) wher
   abbrev S : Setting
   S = setting m s
 
-  abbrev Past : Job → Type 0
+  abbrev pub Past : Job → Type 0
   Past j = (es : List Entry) × History S (limit_of s) es j
 
   verdict_fits : (L : Limits) (σ : State) (o : Outcome) → Past (running L σ) → Named S L σ o → length (seen_text m s (seen s (verdict σ o))) ≤ verdict_most
@@ -75,11 +75,11 @@ module _ (m : Meaning) (w : SoundMeaning m) (s : Sheet) (f : Faultless m s) wher
   Fits k rs j = Past j → length (calls_text m s (faultless j) k rs) ≤ share * length rs + spared j
 
   -- the answer and the job by the call that a record asks for
-  abbrev answer_by : Job → Option Call → ℕ
+  abbrev pub answer_by : Job → Option Call → ℕ
   answer_by j None = refusal_number NoCall
   answer_by j (Some c) = answer_number (reply S j c).answer
 
-  abbrev job_by : Job → Option Call → KeptJob
+  abbrev pub job_by : Job → Option Call → KeptJob
   job_by j None = faultless j
   job_by j (Some c) = faultless (reply S j c).job
 

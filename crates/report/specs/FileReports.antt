@@ -1,44 +1,48 @@
 -- What is answered where the report of a job file is asked for, and what is promised of it. Assumes nothing.
-use Rattle.std.specs.Prelude.{◌≡◌, ℕ, ◌<◌, if◌then◌else◌, List, map, length, Ok, Err, Result, Some, None, Option, nat_le}
+use Rattle.std.specs.Prelude.{◌≡◌, ℕ, ◌<◌, ◌≤◌, List, [], ◌++◌, map, length, drop, Ok, Err, Result}
 use Rattle.rules.specs.declared.records.CallRecord.{CallRecord}
 use Rattle.rules.specs.declared.records.Request.{Request}
 use Rattle.rules.specs.declared.refusals.Fault.{Fault}
 use Rattle.rules.specs.declared.refusals.Refusal.TheVariants.{BufferTooShort}
-use Rattle.rules.specs.Catalogues.{SameAnswers}
 use Rattle.rules.specs.Refusals.{fault}
-use Rattle.jobfile.specs.declared.job.Job.{Job}
-use Rattle.jobfile.specs.CallTables.{calls_of}
-use Rattle.jobfile.specs.Jobs.{job_meaning, stated_by}
-use Rattle.jobfile.specs.Opened.{stated_meaning}
-use Rattle.jobfile.specs.Reading.{read}
+use Rattle.rules.specs.Records.{Lawful, work_records, work_job}
+use Rattle.jobfile.specs.Opened.{stated_meaning, stated_sheet}
 use Rattle.jobfile.specs.Refusing.{Refused}
 use Rattle.jobfile.specs.Stated.{Stated}
 use Rattle.jobfile.specs.Validity.{States}
+use Rattle.report.specs.Buffers.{buffer_after, write_answer}
 use Rattle.report.specs.Reports.{report_buffer, report_text}
-use Rattle.report.specs.Answers.{Reported}
 
 -- Calls as records that have no answers yet.
 abbrev pub unanswered : List Request → List CallRecord
 unanswered qs = map (λ q. record { request = q; answer = 0 }) qs
 
--- The fault for which no report is written of what was read, if any: that of the file, or that the buffer is too short.
-abbrev pub fault_after : Result Stated Fault → List ℕ → Option Fault
-fault_after (Err f) buffer = Some f
-fault_after (Ok j) buffer = if nat_le report_buffer (length buffer) then None else Some (fault BufferTooShort)
+-- The report of a stated job: that of its sheet, its catalogue and its calls.
+abbrev pub stated_report : Stated → List ℕ
+stated_report j = report_text (stated_meaning j) (stated_sheet j) (unanswered j.calls)
 
--- The fault for which no report of a file is written into a buffer, if any.
-abbrev pub file_fault : List ℕ → List ℕ → Option Fault
-file_fault file buffer = fault_after (read file) buffer
+-- What is answered where the report of what a file is read as is to be written into a buffer: the fault of the file comes before that of the buffer.
+abbrev pub file_answer : Result Stated Fault → List ℕ → Result ℕ Fault
+file_answer (Err f) buffer = Err f
+file_answer (Ok j) buffer = write_answer report_buffer (stated_report j) buffer
 
--- The report of a file stands at the front of a buffer: that of a job in memory, as the file states it, with a catalogue over its bytes that answers as the stated job's, and of its calls.
+-- What the buffer holds then.
+abbrev pub file_buffer : Result Stated Fault → List ℕ → List ℕ
+file_buffer (Err f) buffer = buffer
+file_buffer (Ok j) buffer = buffer_after report_buffer (stated_report j) buffer
+
+-- The file states a job, the report of that job stands at the front of a buffer, and what is promised of the answers to its calls holds.
 pub record FileReported (file buffer : List ℕ) (n : ℕ) (written : List ℕ) : Type 0 where
-  pub job : Job
-  pub states : States file (stated_by file job)
-  pub catalogue : SameAnswers (job_meaning file job) (stated_meaning (stated_by file job))
-  -- the records of its calls, with their answers
-  pub answered : List CallRecord
-  pub reported : Reported (job_meaning file job) job.sheet (unanswered (calls_of job.calls)) buffer n answered written
-  pub length_is : n ≡ length (report_text (job_meaning file job) job.sheet (unanswered (calls_of job.calls)))
+  pub job : Stated
+  pub states : States file job
+  pub fits : n ≤ report_buffer
+  pub length_is : n ≡ length (stated_report job)
+  pub text : written ≡ stated_report job ++ drop n buffer
+  pub lawful :
+      let m = stated_meaning job in
+      let s = stated_sheet job in
+      let calls = unanswered job.calls in
+      Lawful m s [] (work_records m s calls) (work_job m s calls)
 
 -- Why no report of a file is written.
 pub data NoReport (file buffer : List ℕ) : Fault → Type 0 where

@@ -1,4 +1,5 @@
 pub mod FaultLines
+pub mod Buffers
 pub mod Reports
 pub mod Examples
 pub mod Theorems

@@ -1,7 +1,8 @@
 // The line of a fault.
-ghost use Rattle.std.specs.Prelude.{◌≡◌, ◌+◌, ◌≤◌, ◌++◌, length};
+ghost use Rattle.std.specs.Prelude.{◌≡◌, ◌+◌, ◌≤◌, ◌++◌, length, IfOk};
 ghost use Rattle.arrayvec.specs.ArrayString.{array_string_len};
-ghost use Rattle.report.specs.FaultLines.{fault_buffer, fault_line, Answered};
+ghost use Rattle.report.specs.Buffers.{buffer_after, write_answer};
+ghost use Rattle.report.specs.FaultLines.{fault_buffer, fault_line};
 
 use arrayvec::ArrayString;
 use itoa::{Buffer, Integer};
@@ -38,11 +39,13 @@ pub fn fault_line(fault: &Fault) -> ArrayString<FAULT_BUFFER>
 
 // Writes the line of a fault to the front of a buffer, and answers its length; a buffer that has fewer bytes than are
 // wanted is refused, and stays as it was.
-pub fn write_fault(fault: &Fault, out: &mut [u8]) -> Result<usize, Refusal>
-    ensures answer { Answered fault.now out.old result out.new }
+pub fn write_fault(fault: &Fault, out: &mut [u8]) -> Result<usize, Fault>
+    ensures answer { result ≡ write_answer fault_buffer (fault_line fault.now) out.old }
+    ensures written { out.new ≡ buffer_after fault_buffer (fault_line fault.now) out.old }
+    ensures fits { IfOk result (λ n. n ≤ fault_buffer) }
 {
     if out.len() < FAULT_BUFFER {
-        return Err(Refusal::BufferTooShort);
+        return Err(Fault::from(Refusal::BufferTooShort));
     }
     let line = fault_line(fault);
     out[..line.len()].copy_from_slice(line.as_bytes());

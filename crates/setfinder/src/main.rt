@@ -11,7 +11,9 @@ use std::process::ExitCode;
 // The line of a fault.
 fn print_fault(rt: &HostRuntime, fault: &Fault) -> anyhow::Result<()> {
     let mut line = [0; FAULT_BUFFER];
-    let length = write_fault(fault, &mut line)?;
+    let Ok(length) = write_fault(fault, &mut line) else {
+        unreachable()
+    };
     rt.stdout().write_all(&line[..length])?;
     Ok(())
 }

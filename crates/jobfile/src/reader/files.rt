@@ -1,7 +1,7 @@
 // A whole file.
 ghost use Rattle.std.specs.Prelude.{◌≡◌, ◌≤◌, length, drop, IfOk, OnOk};
 ghost use Rattle.jobfile.specs.Bounds.{most_bytes};
-ghost use Rattle.jobfile.specs.Sound.{SameRows};
+ghost use Rattle.jobfile.specs.Sound.{BlankPastLast, SameRows};
 ghost use Rattle.jobfile.specs.Reading.{finish, fresh, read_fields};
 
 use crate::checks::fault_at;
@@ -51,6 +51,7 @@ impl Reader<'_> {
     pub(crate) fn finish(self) -> Result<Job, Fault>
         ensures job { says self.entry.file.now result ≡ finish (front_of self.entry) self.entry.at }
         ensures rows { IfOk result SameRows }
+        ensures blank { IfOk result BlankPastLast }
     {
         if matches!(self.section, Section::Start | Section::Rows) {
             return Err(fault_at(Refusal::TagNotAllowed, self.at));

@@ -13,7 +13,9 @@ fn greatest_numbers(rt: HostRuntime) -> Result<(), Fail> {
         row: 255,
     };
     let mut out = [b'.'; FAULT_BUFFER];
-    let length = write_fault(&greatest, &mut out)?;
+    let Ok(length) = write_fault(&greatest, &mut out) else {
+        return Err(Fail::new("refused"));
+    };
     let line = b"REFUSED 255 LAYER 255 AT 65535 PLACE 255 VERSION 255 ROW 255\n";
     assert_eq!(rt; &out[..length], &line[..]);
     assert_eq!(rt; &out[length..], &b"..."[..]);
@@ -33,10 +35,12 @@ fn zeros_and_a_short_buffer(rt: HostRuntime) -> Result<(), Fail> {
     let mut out = [b'.'; 80];
     assert_eq!(rt;
         write_fault(&fault, &mut out[..FAULT_BUFFER - 1]),
-        Err(Refusal::BufferTooShort)
+        Err(Fault::from(Refusal::BufferTooShort))
     );
     assert_eq!(rt; &out[..], &[b'.'; 80][..]);
-    let length = write_fault(&fault, &mut out)?;
+    let Ok(length) = write_fault(&fault, &mut out) else {
+        return Err(Fail::new("refused"));
+    };
     let line = b"REFUSED 3 LAYER 1 AT 0 PLACE 0 VERSION 0 ROW 0\n";
     assert_eq!(rt; &out[..length], &line[..]);
     assert_eq!(rt; &out[length..], &[b'.'; 33][..]);
