@@ -1,11 +1,9 @@
 // The counts, kinds and order of a job of all sorts.
 use crate::draws::Draw;
 use crate::jobs::Drawn;
+use crate::shapes::Shape;
 use rules::{GREATEST_LIMIT, GREATEST_ROW, Kind, MOST_PLACES, MOST_ROWS, Row, Sheet};
 use std::alloc::Global;
-
-// A job has at most so many places.
-const MOST_DRAWN: u8 = 7;
 
 fn draw_kind(draw: &mut Draw) -> Kind {
     match draw.below(3) {
@@ -60,8 +58,8 @@ fn rows_of(kinds: &[Kind; MOST_ROWS]) -> [Row; GREATEST_ROW] {
 }
 
 // A job with its counts, kinds and order, and nothing else.
-pub(crate) fn draw_frame(alloc: Global, draw: &mut Draw) -> Drawn {
-    let places = draw.byte(1, MOST_DRAWN);
+pub(crate) fn draw_frame(alloc: Global, draw: &mut Draw, shape: &Shape) -> Drawn {
+    let places = draw.byte(shape.least_places, shape.most_places);
     let kinds = draw_kinds(draw);
     let sheet = Sheet {
         places,

@@ -49,15 +49,24 @@ impl Drawn {
             .map_or(0, |place| place.len())
     }
 
-    // How many part-choices there are.
-    pub(crate) fn part_choices(&self) -> u64 {
+    // How many choices there are, if they can be counted.
+    pub(crate) fn choices(&self) -> Option<u64> {
+        let mut choices: u64 = 1;
+        for place in &self.table {
+            choices = choices.checked_mul(place.len() as u64)?;
+        }
+        Some(choices)
+    }
+
+    // How many part-choices there are, if they can be counted.
+    pub(crate) fn part_choices(&self) -> Option<u64> {
         let mut ways: u64 = 1;
         let mut all: u64 = 1;
         let places = usize::from(self.sheet.places);
         for place in self.sheet.order.iter().take(places).rev() {
-            ways = ways.saturating_mul(self.count(*place) as u64);
-            all = all.saturating_add(ways);
+            ways = ways.checked_mul(self.count(*place) as u64)?;
+            all = all.checked_add(ways)?;
         }
-        all
+        Some(all)
     }
 }
