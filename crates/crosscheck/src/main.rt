@@ -40,12 +40,12 @@ const MANY: u32 = 1_000;
 const FILLING: u32 = 30;
 
 // One in so many jobs of many places has two versions at each.
-const TWO_AT_EACH: u32 = 200;
+const TWO_VERSIONS: u32 = 200;
 
 // The job of a number.
 fn drawn(alloc: Global, draw: &mut Draw, number: u32) -> Result<Drawn> {
     if number > FEW {
-        let shape = if number % TWO_AT_EACH == 0 {
+        let shape = if number % TWO_VERSIONS == 0 {
             shapes::TWO_AT_EACH
         } else {
             shapes::MANY_PLACES
