@@ -5,6 +5,9 @@ use crate::shapes::Shape;
 use rules::{GREATEST_LIMIT, GREATEST_ROW, Kind, MOST_PLACES, MOST_ROWS, Row, Sheet};
 use std::alloc::Global;
 
+// One in so many orders is by number, in which many places would hardly ever come by themselves.
+const BY_NUMBER: u32 = 10;
+
 fn draw_kind(draw: &mut Draw) -> Kind {
     match draw.below(3) {
         0 => Kind::SumAtMost,
@@ -41,6 +44,9 @@ fn by_number(places: u8) -> [u8; MOST_PLACES] {
 // The places in any order.
 fn draw_order(draw: &mut Draw, places: u8) -> [u8; MOST_PLACES] {
     let mut order = by_number(places);
+    if draw.one_in(BY_NUMBER) {
+        return order;
+    }
     for index in 1..places {
         let other = draw.byte(0, index);
         swap(&mut order, usize::from(index), usize::from(other));

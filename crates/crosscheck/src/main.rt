@@ -1,6 +1,6 @@
 // Holds the chooser against the program that tries every choice, on jobs that are drawn from fixed sequences of numbers; how often each
-// thing was met goes to standard output. The first that differs is told with the number of its job and of its call, and the program
-// ends with status 1.
+// thing was met, on jobs of few places and on those of many, goes to standard output. The first that differs is told with the number of
+// its job and of its call, and the program ends with status 1.
 #![tactic(auto)]
 
 mod answers;
@@ -40,7 +40,7 @@ const MANY: u32 = 1_000;
 const FILLING: u32 = 30;
 
 // One in so many jobs of many places has two versions at each.
-const TWO_VERSIONS: u32 = 200;
+const TWO_VERSIONS: u32 = 100;
 
 // The job of a number.
 fn drawn(alloc: Global, draw: &mut Draw, number: u32) -> Result<Drawn> {

@@ -6,7 +6,7 @@ use rules::{Kind, MOST_PLACES};
 
 impl Drawn {
     // What the amounts of a row come to, with the version of each place, or none where there is no such amount.
-    pub(crate) fn total(&self, row: u8, versions: &[u8]) -> Option<i64> {
+    pub(crate) fn total(&self, row: u8, versions: &[u8; MOST_PLACES]) -> Option<i64> {
         let mut total = None;
         for (place, version) in self.table.iter().zip(versions) {
             let index = usize::from(*version).checked_sub(1)?;
@@ -21,13 +21,13 @@ impl Drawn {
     }
 
     // Whether a choice keeps the limit of a row.
-    fn keeps_row(&self, row: u8, versions: &[u8], limit: i64) -> bool {
+    fn keeps_row(&self, row: u8, versions: &[u8; MOST_PLACES], limit: i64) -> bool {
         let total = self.total(row, versions);
         total.is_some_and(|total| !breaks(self.kind(row), total, limit))
     }
 
     // Whether a choice keeps the limits.
-    pub(crate) fn keeps(&self, versions: &[u8], limits: &Limits) -> bool {
+    pub(crate) fn keeps(&self, versions: &[u8; MOST_PLACES], limits: &Limits) -> bool {
         (0..=self.sheet.last_row).all(|row| self.keeps_row(row, versions, limits.at(row)))
     }
 
