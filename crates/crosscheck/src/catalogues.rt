@@ -57,6 +57,8 @@ fn check_no_place<C: Catalogue>(catalogue: &C, place: u8) -> Result<()> {
 
 pub(crate) fn check_catalogue<C: Catalogue>(job: &Drawn, catalogue: &C) -> Result<()> {
     let places = job.sheet.places;
+    let drawn = job.table.len();
+    ensure!(drawn == usize::from(places), "{drawn} places are drawn");
     let shown = (catalogue.places(), catalogue.rows());
     ensure!(shown == (places, job.rows()), "{shown:?} places and rows");
     check_no_place(catalogue, 0)?;

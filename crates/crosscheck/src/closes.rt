@@ -4,15 +4,17 @@ use crate::grounds::check_ground;
 use crate::judges::Judge;
 use crate::limits::Limits;
 use crate::said::{Best, Said, Verdict};
-use anyhow::{Result, ensure};
+use anyhow::{Context, Result, ensure};
 
 // So many choices are drawn at a close.
 const CHOICES: u32 = 8;
 
 // A search makes fewer steps than twice as many as there are part-choices.
 fn check_steps(judge: &Judge<'_>, steps: u32) -> Result<()> {
+    let part_choices = judge.job.part_choices();
+    let twice = part_choices.and_then(|count| count.checked_mul(2));
     ensure!(
-        u64::from(steps) < judge.job.part_choices().saturating_mul(2),
+        u64::from(steps) < twice.context("too many part-choices")?,
         "{steps} steps are too many"
     );
     Ok(())

@@ -1,11 +1,12 @@
 // The counts, kinds and order of a job of all sorts.
 use crate::draws::Draw;
 use crate::jobs::Drawn;
+use crate::shapes::Shape;
 use rules::{GREATEST_LIMIT, GREATEST_ROW, Kind, MOST_PLACES, MOST_ROWS, Row, Sheet};
 use std::alloc::Global;
 
-// A job has at most so many places.
-const MOST_DRAWN: u8 = 7;
+// One in so many orders is by number, in which many places would hardly ever come by themselves.
+const BY_NUMBER: u32 = 10;
 
 fn draw_kind(draw: &mut Draw) -> Kind {
     match draw.below(3) {
@@ -43,6 +44,9 @@ fn by_number(places: u8) -> [u8; MOST_PLACES] {
 // The places in any order.
 fn draw_order(draw: &mut Draw, places: u8) -> [u8; MOST_PLACES] {
     let mut order = by_number(places);
+    if draw.one_in(BY_NUMBER) {
+        return order;
+    }
     for index in 1..places {
         let other = draw.byte(0, index);
         swap(&mut order, usize::from(index), usize::from(other));
@@ -60,8 +64,8 @@ fn rows_of(kinds: &[Kind; MOST_ROWS]) -> [Row; GREATEST_ROW] {
 }
 
 // A job with its counts, kinds and order, and nothing else.
-pub(crate) fn draw_frame(alloc: Global, draw: &mut Draw) -> Drawn {
-    let places = draw.byte(1, MOST_DRAWN);
+pub(crate) fn draw_frame(alloc: Global, draw: &mut Draw, shape: &Shape) -> Drawn {
+    let places = draw.byte(shape.least_places, shape.most_places);
     let kinds = draw_kinds(draw);
     let sheet = Sheet {
         places,

@@ -4,6 +4,7 @@ use crate::jobs::{Drawn, Mixed};
 use crate::limits::Limits;
 use anyhow::{Context, Result, ensure};
 use exhaustive::cheapest;
+use rules::MOST_PLACES;
 
 // A job with its catalogue.
 #[derive(Drop)]
@@ -20,7 +21,12 @@ impl<'a> Judge<'a> {
     }
 
     // Whether a choice keeps the limits and costs what is said.
-    pub(crate) fn check_choice(&self, limits: &Limits, versions: &[u8], price: i64) -> Result<()> {
+    pub(crate) fn check_choice(
+        &self,
+        limits: &Limits,
+        versions: &[u8; MOST_PLACES],
+        price: i64,
+    ) -> Result<()> {
         ensure!(
             self.job.keeps(versions, limits),
             "{versions:?} breaks a limit of {limits:?}"
@@ -38,7 +44,7 @@ impl<'a> Judge<'a> {
         &self,
         limits: &Limits,
         least: Option<i64>,
-        versions: &[u8],
+        versions: &[u8; MOST_PLACES],
     ) -> Result<bool> {
         if !self.job.keeps(versions, limits) {
             return Ok(false);

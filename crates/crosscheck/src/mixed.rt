@@ -4,6 +4,7 @@ use crate::frames::draw_frame;
 use crate::jobs::Drawn;
 use crate::judges::Judge;
 use crate::limits::{Limits, draw_around};
+use crate::shapes::Shape;
 use crate::spans::draw_spans;
 use anyhow::{Context, Result};
 use rules::{GREATEST_LIMIT, Sheet};
@@ -40,10 +41,10 @@ fn draw_sheet(job: &Drawn, draw: &mut Draw) -> Result<Sheet> {
         .context("a cap of no sheet")
 }
 
-pub(crate) fn draw_job(alloc: Global, draw: &mut Draw) -> Result<Drawn> {
-    let mut job = draw_frame(alloc, draw);
+pub(crate) fn draw_job(alloc: Global, draw: &mut Draw, shape: &Shape) -> Result<Drawn> {
+    let mut job = draw_frame(alloc, draw, shape);
     let spans = draw_spans(draw);
-    job.add_places(alloc, draw, &spans)?;
+    job.add_places(alloc, draw, shape, &spans)?;
     job.middle = job.draw_choice(draw);
     job.sheet = draw_sheet(&job, draw)?;
     Ok(job)

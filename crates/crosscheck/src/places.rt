@@ -1,16 +1,11 @@
 // The places of a job of all sorts: ladders, listed ones behind them, and ladders again.
 use crate::draws::Draw;
 use crate::jobs::{Amounts, Drawn, LadderPlace, ListedPlace};
+use crate::shapes::Shape;
 use crate::spans::Span;
 use catalogue::Rung;
 use rules::MOST_ROWS;
 use std::alloc::{AllocError, Global};
-
-// A place has at most so many versions.
-const MOST_COUNT: u32 = 6;
-
-// A job has at most so many choices.
-const MOST_CHOICES: u32 = 800;
 
 // The tag of a version field, as in a job file.
 const VERSION_TAG: u8 = 4;
@@ -34,9 +29,11 @@ impl Layout {
 }
 
 // How many versions a place has, so many choices being left.
-fn draw_count(draw: &mut Draw, left: &mut u32) -> u8 {
-    let above = draw.below(MOST_COUNT.min(*left));
-    let count = above.saturating_add(1);
+fn draw_count(draw: &mut Draw, shape: &Shape, left: &mut u32) -> u8 {
+    let most = shape.most_versions.min(*left);
+    let least = shape.least_versions.min(most);
+    let above = draw.below(most.saturating_sub(least).saturating_add(1));
+    let count = least.saturating_add(above);
     *left = left.checked_div(count).unwrap_or(1);
     u8::try_from(count).unwrap_or(1)
 }
@@ -108,13 +105,14 @@ impl Drawn {
         &mut self,
         alloc: Global,
         draw: &mut Draw,
+        shape: &Shape,
         spans: &[Span; MOST_ROWS],
     ) -> Result<(), AllocError> {
         let places = self.sheet.places;
         let layout = Layout::draw(draw, places);
-        let mut left = MOST_CHOICES;
+        let mut left = shape.most_choices;
         for place in 1..=places {
-            let count = draw_count(draw, &mut left);
+            let count = draw_count(draw, shape, &mut left);
             if place <= layout.first {
                 self.add_first(alloc, draw_ladder(draw, spans, count))?;
             } else if place <= layout.listed {

@@ -18,7 +18,8 @@ pub(crate) struct VerdictCounts {
     unfinished_with_best: u32,
     // Searches that began with learned grounds.
     with_grounds: u32,
-    // Of all closes together.
+    // Of the search that made the most, and of all together.
+    most_steps: u32,
     steps: u32,
     held: u32,
     // Choices that were drawn at a close and keep the limits.
@@ -51,6 +52,7 @@ impl VerdictCounts {
             }
         }
         one_if(&mut self.with_grounds, began > 0);
+        self.most_steps = self.most_steps.max(said.steps);
         more(&mut self.steps, said.steps);
         more(&mut self.held, u32::try_from(said.held).unwrap_or(u32::MAX));
         more(&mut self.kept, kept);
@@ -68,6 +70,7 @@ impl VerdictCounts {
             self.unfinished, self.unfinished_with_best
         )?;
         println!(rt; "BEGUN WITH GROUNDS {}", self.with_grounds)?;
+        println!(rt; "STEPS OF A SEARCH AT MOST {}", self.most_steps)?;
         println!(rt; "STEPS {} GROUNDS HELD {}", self.steps, self.held)?;
         println!(rt; "DRAWN CHOICES THAT KEEP THE LIMITS {}", self.kept)
     }

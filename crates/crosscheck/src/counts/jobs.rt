@@ -1,18 +1,20 @@
 // How often each sort of job was drawn.
 use crate::counts::{KINDS, more, one_at, one_if, print_table};
 use crate::jobs::{Amounts, Drawn};
-use rules::Sheet;
+use rules::{MOST_PLACES, MOST_ROWS, MOST_VERSIONS, Sheet};
 use std::io;
 
-// Numbers of places, of last rows and of versions that are counted are below this.
-const SIZES: usize = 10;
+// Numbers of places are below this, and numbers of versions.
+const PLACES: usize = MOST_PLACES + 1;
+
+const VERSIONS: usize = MOST_VERSIONS as usize + 1;
 
 // What jobs were drawn.
 #[derive(Clone, Copy, Default)]
 pub(crate) struct JobCounts {
     jobs: u32,
-    places: [u32; SIZES],
-    last_rows: [u32; SIZES],
+    places: [u32; PLACES],
+    last_rows: [u32; MOST_ROWS],
     // Rows from 1 on.
     kinds: [u32; KINDS],
     // Whether the order lists the places by their numbers, or not so.
@@ -22,8 +24,10 @@ pub(crate) struct JobCounts {
     listed_places: u32,
     // Jobs with places of both.
     both: u32,
-    // Places by the number of their versions, if they have few.
-    versions: [u32; SIZES],
+    // Places by the number of their versions.
+    versions: [u32; VERSIONS],
+    // The choices of the job that has the most.
+    most_choices: u64,
     amounts: u32,
     negative: u32,
 }
@@ -73,7 +77,9 @@ impl JobCounts {
     pub(crate) fn add(&mut self, job: &Drawn) {
         let listed = number(job.listed.len());
         let ladder = u32::from(job.sheet.places).saturating_sub(listed);
+        let choices = job.choices().unwrap_or(u64::MAX);
         more(&mut self.jobs, 1);
+        self.most_choices = self.most_choices.max(choices);
         one_at(&mut self.places, usize::from(job.sheet.places));
         one_at(&mut self.last_rows, usize::from(job.sheet.last_row));
         more(&mut self.listed_places, listed);
@@ -98,6 +104,7 @@ impl JobCounts {
             self.ladder_places, self.listed_places, self.both
         )?;
         print_table(rt, "PLACES WITH VERSIONS", &self.versions)?;
+        println!(rt; "CHOICES OF A JOB AT MOST {}", self.most_choices)?;
         println!(rt; "AMOUNTS {} NEGATIVE {}", self.amounts, self.negative)
     }
 }

@@ -6,7 +6,7 @@ use rules::{Kind, MOST_PLACES};
 
 impl Drawn {
     // What the amounts of a row come to, with the version of each place, or none where there is no such amount.
-    pub(crate) fn total(&self, row: u8, versions: &[u8]) -> Option<i64> {
+    pub(crate) fn total(&self, row: u8, versions: &[u8; MOST_PLACES]) -> Option<i64> {
         let mut total = None;
         for (place, version) in self.table.iter().zip(versions) {
             let index = usize::from(*version).checked_sub(1)?;
@@ -21,13 +21,13 @@ impl Drawn {
     }
 
     // Whether a choice keeps the limit of a row.
-    fn keeps_row(&self, row: u8, versions: &[u8], limit: i64) -> bool {
+    fn keeps_row(&self, row: u8, versions: &[u8; MOST_PLACES], limit: i64) -> bool {
         let total = self.total(row, versions);
         total.is_some_and(|total| !breaks(self.kind(row), total, limit))
     }
 
     // Whether a choice keeps the limits.
-    pub(crate) fn keeps(&self, versions: &[u8], limits: &Limits) -> bool {
+    pub(crate) fn keeps(&self, versions: &[u8; MOST_PLACES], limits: &Limits) -> bool {
         (0..=self.sheet.last_row).all(|row| self.keeps_row(row, versions, limits.at(row)))
     }
 
@@ -49,15 +49,24 @@ impl Drawn {
             .map_or(0, |place| place.len())
     }
 
-    // How many part-choices there are.
-    pub(crate) fn part_choices(&self) -> u64 {
+    // How many choices there are, if they can be counted.
+    pub(crate) fn choices(&self) -> Option<u64> {
+        let mut choices: u64 = 1;
+        for place in &self.table {
+            choices = choices.checked_mul(place.len() as u64)?;
+        }
+        Some(choices)
+    }
+
+    // How many part-choices there are, if they can be counted.
+    pub(crate) fn part_choices(&self) -> Option<u64> {
         let mut ways: u64 = 1;
         let mut all: u64 = 1;
         let places = usize::from(self.sheet.places);
         for place in self.sheet.order.iter().take(places).rev() {
-            ways = ways.saturating_mul(self.count(*place) as u64);
-            all = all.saturating_add(ways);
+            ways = ways.checked_mul(self.count(*place) as u64)?;
+            all = all.checked_add(ways)?;
         }
-        all
+        Some(all)
     }
 }
