@@ -143,7 +143,7 @@ impl Listing {
         if !self.fits(place.behind(self.rows, place.count)) {
             return Err(Refusal::FieldCut);
         }
-        // By index: with a `&mut` to the last place from the start, what each refusal leaves behind stays open.
+        // By index, since a `&mut` to the last place would be lent from before the tests, which alter nothing.
         self.places[last].count += 1;
         Ok(())
     }

@@ -6,8 +6,8 @@ use crate::numbers::FirstNumbers;
 use rules::{Request, Row, Sheet};
 use std::fmt;
 
-// So many rows from the front of a table, a line each, numbered from 1; `FirstNumbers` numbers nothing, so it stands apart.
-// The count stands beside the table: with a slice that the caller cuts, the loop's `loop-index-preserved` stayed open.
+// So many rows from the front of a table, a line each, numbered from 1. The count stands beside the table: of a table that was cut it
+// would be open that it is the front of one.
 #[derive(Drop)]
 struct FirstRows<'a> {
     count: u8,
