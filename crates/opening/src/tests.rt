@@ -127,7 +127,10 @@ fn counts_of_a_catalogue(rt: HostRuntime) -> Result<(), Fail> {
     assert_eq!(rt; check(&given, &ladder(2, 2)?).err(), fault(3, 12, 2, 0, 2));
     assert_eq!(rt; check(&given, &ladder(3, 3)?).err(), fault(3, 12, 3, 0, 3));
     // A sheet has a place, so that no job opens with a catalogue that has none.
-    assert_eq!(rt; check(&sheet(1, 1), &ladder(0, 2)?).err(), fault(3, 12, 0, 0, 2));
+    assert_eq!(rt;
+        check(&sheet(1, 1), &ladder(0, 2)?).err(),
+        fault(3, 12, 0, 0, 2)
+    );
     Ok(())
 }
 
