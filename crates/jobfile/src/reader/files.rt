@@ -52,6 +52,7 @@ impl Reader<'_> {
         ensures job { says self.entry.file.now result ≡ finish (front_of self.entry) self.entry.at }
         ensures rows { IfOk result SameRows }
         ensures blank { IfOk result BlankPastLast }
+        ensures end { IfOk result (λ j. j.listing.end ≡ length self.entry.file.now) }
     {
         if matches!(self.section, Section::Start | Section::Rows) {
             return Err(fault_at(Refusal::TagNotAllowed, self.at));
