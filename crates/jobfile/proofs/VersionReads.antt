@@ -165,7 +165,8 @@ module _ (r : Reader) (body : List ℕ) (due : Due r field.Version body) where
         row_table = s.row_table;
         order_table = s.order_table;
         rows_read = s.rows_read;
-        blank = s.blank;
+        blank_rows = s.blank_rows;
+        blank_order = s.blank_order;
         same_rows = record { listing = h.adds.rows ∙ s.same_rows.listing; ladder = s.same_rows.ladder };
         end = h.adds.end ∙ s.end;
         placed = omega (arith, count, t.to, ap length ends.no_ladder);

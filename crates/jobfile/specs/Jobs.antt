@@ -15,7 +15,7 @@ use Rattle.jobfile.specs.Refusing.{Refused}
 use Rattle.jobfile.specs.Opened.{stated_meaning}
 use Rattle.jobfile.specs.CallTables.{calls_of}
 use Rattle.jobfile.specs.InMemory.{listed_of, ladders_of}
-use Rattle.jobfile.specs.Sound.{BlankPastLast}
+use Rattle.jobfile.specs.Sound.{Tables}
 
 -- The job that a job in memory states, with the bytes of its file.
 abbrev pub stated_by : List ℕ → Job → Stated
@@ -52,5 +52,5 @@ pub record RightlyRead (file : List ℕ) (answer : Result Job Fault) : Type 0 wh
   pub refused : (f : Fault) → (answer ≡ Err f → Refused file f) × (Refused file f → answer ≡ Err f)
   -- its catalogue answers every question as that of the stated job does
   pub catalogue : IfOk answer (λ j. SameAnswers (job_meaning file j) (stated_meaning (stated_by file j)))
-  -- past its last row its sheet is blank
-  pub sheet : IfOk answer BlankPastLast
+  -- its tables are these and no others
+  pub tables : IfOk answer (Tables file)

@@ -21,9 +21,16 @@ pub record SameRows (j : Job) : Type 0 where
 abbrev pub BlankAfter : ℕ → Sheet → Type 0
 BlankAfter rows s = (r : ℕ) → rows ≤ r → slice_index_or s.rows r blank_row ≡ blank_row
 
--- Past its last row the sheet of a job in memory is blank.
-abbrev pub BlankPastLast : Job → Type 0
-BlankPastLast j = BlankAfter (last_row j.sheet) j.sheet
+-- Past its last place the order of a sheet is blank.
+abbrev pub BlankOrder : Sheet → Type 0
+BlankOrder s = (p : ℕ) → s.places ≤ p → slice_index_or s.order p 0 ≡ 0
+
+-- What is so of the tables of a job in memory beside what it states: both catalogues have the rows of its sheet, its listing ends where the file does, and past its counts its sheet is blank.
+pub record Tables (file : List ℕ) (j : Job) : Type 0 where
+  pub same_rows : SameRows j
+  pub end : j.listing.end ≡ length file
+  pub blank_rows : BlankAfter (last_row j.sheet) j.sheet
+  pub blank_order : BlankOrder j.sheet
 
 -- What holds at all times, with so many rows read.
 pub record Sound (file : List ℕ) (rows : ℕ) (j : Job) : Type 0 where
@@ -33,7 +40,8 @@ pub record Sound (file : List ℕ) (rows : ℕ) (j : Job) : Type 0 where
   pub row_table : length j.sheet.rows ≡ greatest_row
   pub order_table : length j.sheet.order ≡ most_places
   pub rows_read : rows ≤ last_row j.sheet
-  pub blank : BlankAfter rows j.sheet
+  pub blank_rows : BlankAfter rows j.sheet
+  pub blank_order : BlankOrder j.sheet
   pub same_rows : SameRows j
   pub end : j.listing.end ≡ length file
   pub placed : array_vec_len j.listing.places + array_vec_len j.ladder.places ≤ j.sheet.places

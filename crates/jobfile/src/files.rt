@@ -1,7 +1,7 @@
 // Job files, from bytes to jobs.
-ghost use Rattle.std.specs.Prelude.{◌≡◌, length, IfOk};
+ghost use Rattle.std.specs.Prelude.{◌≡◌, IfOk};
 ghost use Rattle.jobfile.specs.Jobs.{RightlyRead, says};
-ghost use Rattle.jobfile.specs.Sound.{BlankPastLast, SameRows};
+ghost use Rattle.jobfile.specs.Sound.{Tables};
 ghost use Rattle.jobfile.specs.Reading.{read as what_is_read};
 
 use crate::bounds::MOST_BYTES;
@@ -13,9 +13,7 @@ use rules::{Fault, Refusal};
 // What a file says, or the first fault in it.
 fn read_whole(file: &[u8]) -> Result<Job, Fault>
     ensures job { says file.now result ≡ what_is_read file.now }
-    ensures rows { IfOk result SameRows }
-    ensures blank { IfOk result BlankPastLast }
-    ensures end { IfOk result (λ j. j.listing.end ≡ length file.now) }
+    ensures tables { IfOk result (Tables file.now) }
 {
     if file.len() > MOST_BYTES {
         return Err(fault_at(Refusal::FileTooLong, MOST_BYTES as u16));
@@ -29,8 +27,6 @@ fn read_whole(file: &[u8]) -> Result<Job, Fault>
 pub fn read(file: &[u8]) -> Result<Job, Fault>
     ensures job { says file.now result ≡ what_is_read file.now }
     ensures right { RightlyRead file.now result }
-    ensures rows { IfOk result SameRows }
-    ensures end { IfOk result (λ j. j.listing.end ≡ length file.now) }
 {
     read_whole(file)
 }

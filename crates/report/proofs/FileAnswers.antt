@@ -51,7 +51,7 @@ module _ (file buffer : List ℕ) (j : Job) (is : says file (Ok j) ≡ read file
   text_is : report_text (job_meaning file j) j.sheet records ≡ stated_report t
   text_is =
       let opens = opens_law t states.0 in
-      report_same _ _ _ _ (alike file j states.0 right.catalogue right.sheet) opens.0 opens.1 records
+      report_same _ _ _ _ (alike file j states.0 right.catalogue right.tables) opens.0 opens.1 records
 
   -- only the buffer can be too short
   answer_is : report_answer (job_meaning file j) j.sheet records buffer ≡ write_answer report_buffer (stated_report t) buffer
@@ -61,7 +61,7 @@ module _ (file buffer : List ℕ) (j : Job) (is : says file (Ok j) ≡ read file
       let answer : List ℕ → Result ℕ Fault = λ text. Ok (length text) in
       let text = report_text (job_meaning file j) j.sheet records in
       let counted : Result ℕ Fault = where_holds (leb (length records) most_reported) (fault NoCall) (answer text) in
-      ap (λ o. fault_first o (where_holds enough (fault BufferTooShort) counted)) (alike file j states.0 right.catalogue right.sheet).opens
+      ap (λ o. fault_first o (where_holds enough (fault BufferTooShort) counted)) (alike file j states.0 right.catalogue right.tables).opens
       ∙ ap (λ r. where_holds enough (fault BufferTooShort) r) (cond-true (leb (length records) most_reported) (answer text) (Err (fault NoCall)) few)
       ∙ ap (λ text. where_holds enough (fault BufferTooShort) (answer text)) text_is
 

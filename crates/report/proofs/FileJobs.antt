@@ -16,7 +16,7 @@ use Rattle.rules.proofs.OpeningTests.{faultless_none}
 use Rattle.jobfile.specs.declared.job.Job.{Job}
 use Rattle.jobfile.specs.Jobs.{job_meaning, stated_by}
 use Rattle.jobfile.specs.Opened.{stated_meaning, stated_sheet}
-use Rattle.jobfile.specs.Sound.{BlankPastLast}
+use Rattle.jobfile.specs.Sound.{Tables}
 use Rattle.jobfile.specs.Stated.{Stated}
 use Rattle.jobfile.specs.Validity.{Valid}
 use Rattle.jobfile.proofs.OpensWell.{opens_law}
@@ -59,7 +59,7 @@ module _ (a b : Meaning) (same : SameAnswers a b) where
       ∙ amounts_same row q v
       ∙ cond-true (has_amount b row q v) (b.amount row q v) (pos 0) (there b row q v r x y u w)
 
-module _ (file : List ℕ) (j : Job) (v : Valid (stated_by file j)) (same : SameAnswers (job_meaning file j) (stated_meaning (stated_by file j))) (blank : BlankPastLast j) where
+module _ (file : List ℕ) (j : Job) (v : Valid (stated_by file j)) (same : SameAnswers (job_meaning file j) (stated_meaning (stated_by file j))) (tables : Tables file j) where
   abbrev t : Stated
   t = stated_by file j
 
@@ -79,7 +79,7 @@ module _ (file : List ℕ) (j : Job) (v : Valid (stated_by file j)) (same : Same
   row_same r =
       elim (cases_lt r (last_row s)) [
         | inl stated ↦ sym (get_or-take (last_row s) s.rows r blank_row stated)
-        | inr past ↦ blank r past ∙ sym (get_or_past u.rows r blank_row (omega (arith, v.row_count)))
+        | inr past ↦ tables.blank_rows r past ∙ sym (get_or_past u.rows r blank_row (omega (arith, v.row_count)))
       ]
 
   kinds_same : (r : ℕ) → kind_of s r ≡ kind_of u r

@@ -1,7 +1,7 @@
 // A whole file.
 ghost use Rattle.std.specs.Prelude.{◌≡◌, ◌≤◌, length, drop, IfOk, OnOk};
 ghost use Rattle.jobfile.specs.Bounds.{most_bytes};
-ghost use Rattle.jobfile.specs.Sound.{BlankPastLast, SameRows};
+ghost use Rattle.jobfile.specs.Sound.{Tables};
 ghost use Rattle.jobfile.specs.Reading.{finish, fresh, read_fields};
 
 use crate::checks::fault_at;
@@ -50,9 +50,7 @@ impl Reader<'_> {
     // At the end of the file: the order has come, and each place has its versions.
     pub(crate) fn finish(self) -> Result<Job, Fault>
         ensures job { says self.entry.file.now result ≡ finish (front_of self.entry) self.entry.at }
-        ensures rows { IfOk result SameRows }
-        ensures blank { IfOk result BlankPastLast }
-        ensures end { IfOk result (λ j. j.listing.end ≡ length self.entry.file.now) }
+        ensures tables { IfOk result (Tables self.entry.file.now) }
     {
         if matches!(self.section, Section::Start | Section::Rows) {
             return Err(fault_at(Refusal::TagNotAllowed, self.at));
