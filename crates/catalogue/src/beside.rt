@@ -47,6 +47,8 @@ impl<F: Catalogue, S: Catalogue> Catalogue for Beside<F, S> {
         }
     }
 
+    // Inlined, since a total over places asks for one amount after the other.
+    #[inline(always)]
     fn amount(&self, row: u8, place: u8, version: u8) -> Option<i64> {
         let shift = self.first.places();
         if row >= self.rows() || place > self.places() {

@@ -1,6 +1,7 @@
 // The tests of what a field says, each with the fault that it gives.
 ghost use Rattle.std.specs.Prelude.{◌≡◌, ℕ, suc, ◌+◌, ◌*◌, ◌≤◌, ℤ, length, is_some, slice_index};
 ghost use Rattle.rules.specs.Bounds.{greatest_row};
+ghost use Rattle.rules.specs.Numbers.{number_at as number_in};
 ghost use Rattle.rules.specs.Openings.{checked, amount_tests};
 ghost use Rattle.rules.specs.Refusals.{fault_in};
 ghost use Rattle.rules.specs.Records.{asked};
@@ -11,7 +12,7 @@ ghost use Rattle.jobfile.specs.Amounts.{Gives};
 use crate::bounds::MOST_CALLS;
 use rules::{
     Fault, GREATEST_AMOUNT, GREATEST_LIMIT, GREATEST_ROW, Kind, MOST_PLACES, MOST_VERSIONS,
-    Refusal, Request, Row, Sheet, lists_each, number_at,
+    Refusal, Request, Row, Sheet, lists_each,
 };
 
 // A fault of the field that begins at a byte.
@@ -98,6 +99,14 @@ pub(crate) fn check_amounts<A: Fn(u8) -> i64>(
     Ok(())
 }
 
+// The number in four bytes that a body is known to have, so that none is tested for each amount of a file.
+fn number_within(body: &[u8], at: usize) -> i32
+    requires { at + 4 ≤ length body.now }
+    ensures { result ≡ number_in body.now at }
+{
+    i32::from_be_bytes([body[at], body[at + 1], body[at + 2], body[at + 3]])
+}
+
 // A version after so many listed places, of a place that has so many versions.
 pub(crate) fn check_version(
     sheet: &Sheet,
@@ -127,7 +136,9 @@ pub(crate) fn check_version(
     // By row and not in chunks, since the same check serves the rungs of a ladder.
     check_amounts(
         sheet.last_row,
-        |row| i64::from(number_at(body, 1 + 4 * usize::from(row))),
+        |row|
+            requires { 5 + 4 * row ≤ length body.now }
+        { i64::from(number_within(body, 1 + 4 * usize::from(row))) },
         spot,
     )
 }

@@ -8,6 +8,8 @@ use crate::Joining;
 use catalogue::Catalogue;
 
 // The amount of a row at the place of an index, that of place 1 being at 0; 0 where the catalogue has none.
+// Inlined, so that what doesn't change from place to place is looked up once.
+#[inline(always)]
 fn amount_at<C: Catalogue>(catalogue: &C, row: u8, index: u8, versions: &[u8]) -> i64
     requires { index < 255 }
     ensures { result ≡ amount_in (C.Catalogue.meaning catalogue.now) row (index + 1) (version versions.now (index + 1)) }
