@@ -1,8 +1,11 @@
 -- What a reader comes to with a ladder field. Assumes nothing.
-use Rattle.std.proofs.Common.{◌≡◌, ℕ, suc, ◌+◌, ◌*◌, List, [], ◌∷◌, ◌++◌, map, length, get_or, drop, Ok, Option, sym, ap, ◌∙◌, ap₂}
+use Rattle.std.proofs.Common.{◌≡◌, ℕ, ℤ, suc, ◌+◌, ◌*◌, ◌≤◌, List, [], ◌∷◌, ◌++◌, map, length, get_or, drop, Ok, Option, sym, ap, ◌∙◌, ap₂}
 use Rattle.std.proofs.lemmas.List.{length-map, map_push}
+use Rattle.std.proofs.lemmas.Bool.{and_parts, eqb-true, leb-true}
 use Rattle.rules.specs.declared.refusals.Fault.{Fault}
 use Rattle.rules.specs.Openings.{first_fault, after_tests}
+use Rattle.rules.proofs.TestLists.{all_passed, test_passed}
+use Rattle.rules.proofs.TestLoops.{passed_tests}
 use Rattle.catalogue.specs.declared.rung.Rung.{Rung}
 use Rattle.catalogue.specs.declared.ladder.Ladder.{Ladder}
 use Rattle.catalogue.specs.Ladder.{with_place}
@@ -20,6 +23,13 @@ use Rattle.jobfile.proofs.Listings.{length_listed}
 -- as many ladders are stated as the catalogue has
 pub length_ladders : (l : Ladder) → length (ladders_of l) ≡ length l.places.items
 length_ladders l = length-map l.places.items (ladder_of_place l.rows)
+
+-- a ladder that passed its tests is of the next place, and of one that there is
+pub turn_passed : (n m found q count : ℕ) (a : ℕ → ℕ → ℤ) (at : ℕ) → after_tests (first_fault (ladder_tests n m found q count a at)) (tt {0}) ≡ Ok (tt {0}) → (q ≡ suc found) × (q ≤ n)
+turn_passed n m found q count a at h =
+    let all = all_passed (ladder_tests n m found q count a at) (passed_tests _ _ _ h).0 in
+    let turn = and_parts _ _ (test_passed _ _ all.0) in
+    (eqb-true q (suc found) turn.0, leb-true q n turn.1)
 
 module _ (r : Reader) (body : List ℕ) where
   abbrev said : List RungStated

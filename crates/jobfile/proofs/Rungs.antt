@@ -1,11 +1,11 @@
 -- The rungs of a ladder in a table, and in the body of a field. Assumes nothing.
-use Rattle.std.proofs.Common.{◌≡◌, ℕ, zero, suc, ◌+◌, ◌*◌, ◌<◌, ◌≤◌, List, ◌∷◌, map, length, get_or, get_or-take, take, drop, sym, refl, ap, ◌∙◌, ap₂, arith}
+use Rattle.std.proofs.Common.{◌≡◌, ℕ, zero, suc, ◌+◌, ◌*◌, ◌<◌, ◌≤◌, List, [], ◌∷◌, ◌++◌, map, length, set, get_or, get_or-take, take, drop, sym, refl, ap, ◌∙◌, ap₂, arith}
 use Rattle.std.specs.List.{range_with_len}
 use denote.Param.Members.{Mut, Called}
 use Rattle.std.specs.Array.{IsFromFnResult}
-use Rattle.std.proofs.lemmas.List.FromFn.{take-map-range_with_len, fill_by_all}
+use Rattle.std.proofs.lemmas.List.FromFn.{take-map-range_with_len, map-range_with_len_more, fill_by_all}
 use Rattle.rules.specs.Bounds.{most_rows, greatest_row}
-use Rattle.std.proofs.lemmas.List.{length-map, get_or-map, take-map, drop-drop}
+use Rattle.std.proofs.lemmas.List.{length-map, get_or-map, take-map, map_push, take_more_set, drop-drop}
 use Rattle.rules.specs.Numbers.{number_at}
 use Rattle.rules.specs.Catalogues.{rung}
 use Rattle.rules.proofs.Filled.{each_filled}
@@ -28,6 +28,16 @@ rung_in bs r = record { base = number_at bs (2 + 8 * r); step = number_at bs (2 
 pub rung_amount_at : (n r v : ℕ) (gs : List Rung) (g : Rung) → r < n → r < length gs → g ≡ get_or gs r g → rung g.base g.step v ≡ rung_amount (rungs_of n gs) v r
 rung_amount_at n r v gs g l m e =
     ap (λ x. rung x.base x.step v) (ap stated e ∙ sym (get_or-map stated gs r g no_rung m) ∙ sym (get_or-take n (map stated gs) r no_rung l) ∙ ap (λ xs. get_or xs r no_rung) (take-map stated n gs))
+
+-- one rung more in a table
+pub rungs_more : (bs : List ℕ) (gs : List Rung) (r i : ℕ) (g : Rung) → i ≡ r → r < length gs → g.base ≡ number_at bs (2 + 8 * i) → g.step ≡ number_at bs (2 + 8 * i + 4) → rungs_of r gs ≡ map (rung_in bs) (range_with_len 0 r) → rungs_of (r + 1) (set gs i g) ≡ map (rung_in bs) (range_with_len 0 (r + 1))
+rungs_more bs gs r i g same l base step h =
+    let here : stated g ≡ rung_in bs r = ap₂ (λ b s. record { base = b; step = s }) base step ∙ ap (rung_in bs) same in
+    ap (λ i. rungs_of (r + 1) (set gs i g)) same
+    ∙ ap (map stated) (take_more_set gs r g l)
+    ∙ map_push stated (take r gs) g
+    ∙ ap₂ (λ xs x. xs ++ x ∷ []) h here
+    ∙ sym (map-range_with_len_more (rung_in bs) 0 r r (omega arith))
 
 -- the rungs by their rows are those that the body's numbers give
 from_row : (k a : ℕ) (bs : List ℕ) → rungs_in (numbers_in (2 * k) (drop (2 + 8 * a) bs)) ≡ map (rung_in bs) (range_with_len a k)

@@ -35,6 +35,14 @@ front_in section.Versions j k = k.0
 front_in section.Ladders j k = k.0
 front_in section.Calls j k = k.0
 
+-- every other section is past the order
+pub is_late : (c : Section) → c ≢ section.Start → c ≢ section.Rows → early c ≡ false
+is_late section.Start a b = absurd (a refl)
+is_late section.Rows a b = absurd (b refl)
+is_late section.Versions a b = refl
+is_late section.Ladders a b = refl
+is_late section.Calls a b = refl
+
 -- before the order, and from it on
 pub early_extent : (c : Section) → early c ≡ true → extent c ≢ past_order
 early_extent section.Start e = λ s. absurd (cc)

@@ -9,7 +9,7 @@ use Rattle.rules.specs.Settings.{amount_in}
 use Rattle.joining.specs.Held.{held_in_64}
 use Rattle.joining.proofs.Held.{held_near}
 
-amount_near : (m : Meaning) → SoundMeaning m → (row q v : ℕ) → nat_abs (amount_in m row q v) ≤ amount_reach
+pub amount_near : (m : Meaning) → SoundMeaning m → (row q v : ℕ) → nat_abs (amount_in m row q v) ≤ amount_reach
 amount_near m w row q v =
     cond_both (has_amount m row q v) (m.amount row q v) (pos 0) (λ z. nat_abs z ≤ amount_reach)
     (λ e.
@@ -24,14 +24,11 @@ amount_near m w row q v =
 abbrev pub amounts : Meaning → ℕ → List ℕ → ℕ → ℤ
 amounts m row c q = amount_in m row q (version c q)
 
-module _ (m : Meaning) (w : SoundMeaning m) (J : Joining) (laws : Laws J) (row : ℕ) (c : List ℕ) where
-  abbrev f : ℕ → ℤ
-  f = amounts m row c
-
+module _ (J : Joining) (laws : Laws J) (f : ℕ → ℤ) (near : (q : ℕ) → nat_abs (f q) ≤ amount_reach) where
   joined_near : (q : ℕ) → nat_abs (joined_over J f q) ≤ suc q * amount_reach
   joined_near zero = omega (arith, laws.unit_near)
   joined_near (suc q) =
-      omega (arith, laws.near (joined_over J f q) (f (suc q)), joined_near q, amount_near m w row (suc q) (version c (suc q)), suc-mul (suc q) amount_reach)
+      omega (arith, laws.near (joined_over J f q) (f (suc q)), joined_near q, near (suc q), suc-mul (suc q) amount_reach)
 
   -- one place more
   pub joined_more : (q : ℕ) (joined amount : ℤ) → q < 2 ^ 8 → joined ≡ joined_over J f q → amount ≡ f (q + 1) → held_in_64 (J.join joined amount) ≡ joined_over J f (q + 1)

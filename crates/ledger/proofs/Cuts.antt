@@ -2,17 +2,18 @@
 use Rattle.std.proofs.Common.{◌≡◌, ℕ, zero, suc, ◌+◌, ◌-◌, ◌<◌, ◌≤◌, true, eqb, leb, ltb, ◌&&◌, List, [], ◌∷◌, ◌++◌, length, get_or, set, take, drop, sym, refl, ap, ◌∙◌, arith, length-append, length-drop}
 use Rattle.std.proofs.lemmas.List.{take_all, drop_all, take-append-le, drop-append-le, set_split, set-get_or, map_push, same_from_push, length-map}
 use Rattle.std.proofs.lemmas.List.Edits.{length-between}
-use Rattle.std.proofs.lemmas.Bool.{and_parts, and_from, leb-true, le-leb, eqb-true, eq-eqb}
+use Rattle.std.proofs.lemmas.Bool.{and_parts, and_from, leb-true, le-leb, ltb-true, eqb-true, eq-eqb}
 use Rattle.rules.specs.declared.lines.Line.{Line}
 use Rattle.rules.specs.Grounds.{Ground}
 use Rattle.rules.specs.Bounds.{most_grounds, most_lines}
 use Rattle.rules.specs.Search.{line_count, room}
-use Rattle.ledger.specs.Lines.{AllNear}
+use Rattle.arrayvec.specs.ArrayVec.{array_vec_len}
+use Rattle.ledger.specs.Lines.{AllNear, all_near}
 use Rattle.ledger.specs.Tables.{cut, grounds_of, adjoin}
-use Rattle.ledger.specs.Model.{held}
+use Rattle.ledger.specs.Model.{held, takes}
 use Rattle.ledger.specs.declared.records.GroundRecord.{GroundRecord}
 use Rattle.ledger.specs.declared.table.Ledger.{Ledger}
-use Rattle.ledger.proofs.Nears.{near_none, near_part}
+use Rattle.ledger.proofs.Nears.{near_none, near_part, all_near_since}
 
 near_cuts : (ls : List Line) (gs : List GroundRecord) (k : ℕ) → AllNear ls → AllNear (get_or (grounds_of ls gs) k [])
 near_cuts ls [] k all = λ j. near_none
@@ -135,3 +136,10 @@ record_within s k r within is =
 -- what there is space for has it
 pub room_fits : (gs : List Ground) (g : Ground) → room gs g ≡ true → line_count gs + length g ≤ most_lines
 room_fits gs g h = leb-true _ _ (and_parts (ltb (length gs) most_grounds) _ h).1
+
+-- what is taken has space, and the tables hold its lines
+pub takes_counts : (s : Ledger) (g : Ground) → takes (held s) g ≡ true → (array_vec_len s.grounds < most_grounds) × (array_vec_len s.lines + length g ≤ most_lines) × AllNear g
+takes_counts s g h =
+    let both = and_parts (room (held s) g) (all_near g) h in
+    let few = ltb-true _ _ (and_parts (ltb (length (held s)) most_grounds) _ both.0).0 in
+    (omega (arith, few, length-map s.grounds.items (cut s.lines.items)), omega (arith, counted s, room_fits (held s) g both.0), all_near_since g both.1)

@@ -1,5 +1,5 @@
 -- Lines that the tables hold: as a fact and as a test, and in lists that are made of others. Assumes nothing.
-use Rattle.std.proofs.Common.{◌≡◌, ℕ, zero, suc, true, leb, List, [], ◌∷◌, ◌++◌, take, drop, refl, arith}
+use Rattle.std.proofs.Common.{◌≡◌, ℕ, zero, suc, true, leb, List, [], ◌∷◌, ◌++◌, take, drop, set, replicate, refl, arith}
 use Rattle.std.specs.List.{AllByRecursion}
 use Rattle.std.proofs.lemmas.Bool.{and_parts, and_from, leb-true, le-leb}
 use Rattle.rules.specs.declared.lines.Line.{Line}
@@ -15,6 +15,11 @@ near_since l h =
     let rest = and_parts (leb l.level most_places) _ parts.1 in
     (leb-true _ _ parts.0, leb-true _ _ rest.0, leb-true _ _ rest.1)
 
+pub all_near_since : (ls : List Line) → all_near ls ≡ true → AllNear ls
+all_near_since [] h k = near_none
+all_near_since (l ∷ ls) h zero = near_since l (and_parts (near l) (all_near ls) h).0
+all_near_since (l ∷ ls) h (suc k) = all_near_since ls (and_parts (near l) (all_near ls) h).1 k
+
 since_near : (l : Line) → Near l → near l ≡ true
 since_near l h = and_from (leb l.row greatest_row) _ (le-leb _ _ h.0) (and_from (leb l.level most_places) _ (le-leb _ _ h.1) (le-leb _ _ h.2))
 
@@ -28,6 +33,20 @@ near_push [] l all new zero = new
 near_push [] l all new (suc k) = near_none
 near_push (x ∷ ls) l all new zero = all 0
 near_push (x ∷ ls) l all new (suc k) = near_push ls l (λ j. all (suc j)) new k
+
+-- a line written over
+pub near_set : (ls : List Line) (i : ℕ) (l : Line) → Near l → AllNear ls → AllNear (set ls i l)
+near_set [] i l new all k = all k
+near_set (x ∷ ls) zero l new all zero = new
+near_set (x ∷ ls) zero l new all (suc k) = all (suc k)
+near_set (x ∷ ls) (suc i) l new all zero = all 0
+near_set (x ∷ ls) (suc i) l new all (suc k) = near_set ls i l new (λ j. all (suc j)) k
+
+-- a table with no line
+pub near_blank : (n : ℕ) → AllNear (replicate n no_line)
+near_blank zero k = near_none
+near_blank (suc n) zero = near_none
+near_blank (suc n) (suc k) = near_blank n k
 
 near_drop : (n : ℕ) (ls : List Line) → AllNear ls → AllNear (drop n ls)
 near_drop zero ls all = all

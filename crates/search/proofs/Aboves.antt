@@ -1,7 +1,7 @@
 -- A line's constant joined with the amounts above its level, one position lower at a time. Assumes nothing.
-use Rattle.std.proofs.Common.{◌≡◌, ℕ, zero, suc, ◌+◌, ◌-◌, ◌<◌, ◌≤◌, ◌&&◌, leb, List, length, get_or, take, drop, ℤ, sym, ap, ◌∙◌, ⊎_elim, arith, length-drop}
+use Rattle.std.proofs.Common.{◌≡◌, ℕ, zero, suc, ◌+◌, ◌-◌, ◌<◌, ◌≤◌, ◌&&◌, false, leb, List, length, get_or, take, drop, ℤ, sym, ap, ◌∙◌, ⊎_elim, arith, length-drop}
 use Rattle.std.proofs.lemmas.List.{drop_more, drop_all, get_or-take, length-take-le}
-use Rattle.std.proofs.lemmas.Bool.{le-leb, cases_lt}
+use Rattle.std.proofs.lemmas.Bool.{le-leb, lt-leb, and_left, cases_lt}
 use Rattle.rules.specs.declared.lines.Line.{Line}
 use Rattle.rules.specs.Sheets.{Limits}
 use Rattle.rules.specs.Grounds.{Setting, open_places, joined_above, line_stands}
@@ -41,6 +41,9 @@ module _ (S : Setting) (vs : List ℕ) (whole : length vs ≡ S.places) where
   line_is : (L : Limits) (l : Line) (opened : ℕ) → opened ≤ length vs → line_stands S L (drop opened vs) l ≡ (leb opened l.level && (S.joining l.row).worse (joined_above S l.row l.level l.constant (drop opened vs)) (L l.row))
   line_is L l opened within =
       ap (λ n. leb n l.level && (S.joining l.row).worse (joined_above S l.row l.level l.constant (drop opened vs)) (L l.row)) (opened_is opened within)
+
+  pub line_off : (L : Limits) (l : Line) (opened : ℕ) → opened ≤ length vs → l.level < opened → line_stands S L (drop opened vs) l ≡ false
+  line_off L l opened within low = line_is L l opened within ∙ and_left (leb opened l.level) _ (lt-leb opened l.level low)
 
   pub line_on : (L : Limits) (l : Line) (opened : ℕ) → opened ≤ length vs → opened ≤ l.level → line_stands S L (drop opened vs) l ≡ (S.joining l.row).worse (joined_above S l.row l.level l.constant (drop l.level vs)) (L l.row)
   line_on L l opened within low =
