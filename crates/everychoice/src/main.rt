@@ -29,18 +29,17 @@ fn print_job(rt: &impl Print, file: &[u8], job: Job) -> io::Result<()> {
 }
 
 // The line of a fault.
-fn print_fault(rt: &HostRuntime, fault: &Fault) -> anyhow::Result<()> {
+fn print_fault(rt: &HostRuntime, fault: &Fault) -> io::Result<()> {
     let mut line = [0; FAULT_BUFFER];
     let Ok(length) = write_fault(fault, &mut line) else {
         unreachable()
     };
-    rt.stdout().write_all(&line[..length])?;
-    Ok(())
+    rt.stdout().write_all(&line[..length])
 }
 
 // The file on standard input: what it states and its answer, or its fault. A byte more than a file may have is enough to
 // tell that it is too long.
-fn run(rt: &HostRuntime) -> anyhow::Result<ExitCode> {
+fn run(rt: &HostRuntime) -> io::Result<ExitCode> {
     let mut file = Vec::new(rt.alloc());
     rt.stdin()
         .take(MOST_BYTES as u64 + 1)
@@ -57,6 +56,6 @@ fn run(rt: &HostRuntime) -> anyhow::Result<ExitCode> {
     }
 }
 
-fn main(rt: HostRuntime) -> anyhow::Result<ExitCode> {
+fn main(rt: HostRuntime) -> io::Result<ExitCode> {
     run(&rt)
 }
